@@ -1,0 +1,5 @@
+pub mod Ways
+pub mod Heads
+pub mod Rules
+pub mod Overs
+pub mod Taking

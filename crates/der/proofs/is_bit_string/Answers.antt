@@ -1,0 +1,13 @@
+use borrow.Author.Needs.{needs}
+use mathlib.Core.Path.{sym}
+use Rattle.der.proofs.Rules.{bits-none, bits-one, bits-more}
+use Rattle.der.proofs.is_bit_string.Needs as need
+
+pub returns-in-empty : need.returns-in-empty
+returns-in-empty c = sym (bits-none (c .args .content .now) (search needs))
+
+pub returns-in-len1 : need.returns-in-len1
+returns-in-len1 c = sym (bits-one (c .args .content .now) (search needs))
+
+pub returns-in-len1-up : need.returns-in-len1-up
+returns-in-len1-up c = sym (bits-more (c .args .content .now) (search needs))

@@ -1,0 +1,49 @@
+-- Elements as X.690 writes them under the distinguished rules, cut down to what a token uses: a tag of one byte, a length in its
+-- shortest form, and that many bytes of content. This file knows only how an element is written, and nothing of a reader.
+use Prim.Native.Nat.{ℕ, _/_, _%_, _<_}
+use mathlib.Core.Bool.{Bool, true, cond, not, _&&_, _||_}
+use mathlib.Core.List.{List, [], _∷_, _++_}
+use lib.Bits.{bitAnd}
+use lib.Dec.{eqb, leb, ltb}
+use lib.ListN.{length, getD}
+use Rattle.std.specs.declared.option.Option.{Option}
+use Rattle.std.specs.declared.option.Option.the-variants.{Some, None}
+
+-- a tag of one byte: its low five bits are not all ones
+abbrev pub tag : ℕ → Bool
+tag t = not (eqb (bitAnd t 31) 31)
+
+-- the shortest form of a length of at most 65535
+abbrev pub lengthBytes : ℕ → List ℕ
+lengthBytes n = cond (ltb n 128) (n ∷ []) (cond (ltb n 256) (0x81 ∷ n ∷ []) (0x82 ∷ n / 256 ∷ n % 256 ∷ []))
+
+-- what stands before n bytes of content
+unfoldable pub header : ℕ → ℕ → List ℕ
+header t n = t ∷ lengthBytes n
+
+unfoldable pub element : ℕ → List ℕ → List ℕ
+element t content = header t (length content) ++ content
+
+-- an element that may be absent
+abbrev pub optional : ℕ → Option (List ℕ) → List ℕ
+optional t None = []
+optional t (Some content) = element t content
+
+-- the content has a length that can be written
+abbrev pub Short : Option (List ℕ) → Type 0
+Short None = Unit {0}
+Short (Some content) = length content < 65536
+
+-- the content of an object identifier is a row of arcs: every byte of an arc but its last is 0x80 or more, and its first is not 0x80.
+-- `begins` says whether the next byte begins an arc
+abbrev pub arcs : Bool → List ℕ → Bool
+arcs begins [] = begins
+arcs begins (b ∷ bs) = not (begins && eqb b 0x80) && arcs (ltb b 0x80) bs
+
+-- at least one arc
+unfoldable pub oid : List ℕ → Bool
+oid content = ltb 0 (length content) && arcs true content
+
+-- the content of a bit string: the number of unused bits in the last byte, which is 0 if no byte follows
+unfoldable pub bitString : List ℕ → Bool
+bitString content = ltb 0 (length content) && (leb (getD content 0 0) 7 && (ltb 1 (length content) || eqb (getD content 0 0) 0))

@@ -1,0 +1,4 @@
+pub mod Listing
+pub mod Inside
+pub mod Fourfold
+pub mod Whole

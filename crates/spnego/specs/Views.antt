@@ -1,0 +1,54 @@
+-- What the code's values say, their references read.
+use Prim.Native.Nat.{ℕ}
+use mathlib.Core.List.{List, []}
+use denote.Ref.{RefT}
+use Rattle.spnego.specs.Tokens.{Fields, Targ, Init}
+use Rattle.spnego.specs.Reading.{seen, before, oidsOf}
+use Rattle.spnego.specs.declared.fields.TokenFields.{TokenFields}
+use Rattle.spnego.specs.declared.mech_type_list.MechTypeList.{MechTypeList}
+use Rattle.spnego.specs.declared.neg_token_targ.NegTokenTarg.{NegTokenTarg}
+use Rattle.spnego.specs.declared.neg_token_init.NegTokenInit.{NegTokenInit}
+use Rattle.sspi.specs.declared.fault.Fault.{Fault}
+use Rattle.std.specs.declared.option.Option.{Option}
+use Rattle.std.specs.declared.option.Option.the-variants.{Some, None}
+use Rattle.std.specs.declared.result.Result.{Result}
+use Rattle.std.specs.declared.result.Result.the-variants.{Ok, Err}
+
+abbrev pub plainFields : TokenFields → Fields
+plainFields f = record { first = seen (f .first); second = seen (f .second); third = seen (f .third); fourth = seen (f .fourth) }
+
+abbrev pub fieldsRead : Result TokenFields Fault → Result Fields Fault
+fieldsRead (Ok f) = Ok (plainFields f)
+fieldsRead (Err e) = Err e
+
+abbrev pub plainTarg : NegTokenTarg → Targ
+plainTarg t = record { negState = seen (t .«neg_state»); supportedMech = seen (t .«supported_mech»); responseToken = seen (t .«response_token»); mechListMic = seen (t .«mech_list_mic») }
+
+abbrev pub targRead : Result NegTokenTarg Fault → Result Targ Fault
+targRead (Ok t) = Ok (plainTarg t)
+targRead (Err e) = Err e
+
+abbrev pub plainInit : NegTokenInit → Init
+plainInit t = record { thisMech = t .«this_mech» .now; mechTypes = seen (t .«mech_types»); reqFlags = seen (t .«req_flags»); mechToken = seen (t .«mech_token»); mechListMic = seen (t .«mech_list_mic») }
+
+abbrev pub initRead : Result NegTokenInit Fault → Result Init Fault
+initRead (Ok t) = Ok (plainInit t)
+initRead (Err e) = Err e
+
+-- the object identifiers of a list
+abbrev pub listed : MechTypeList → Result (List (List ℕ)) Fault
+listed l = oidsOf (l .oids .now)
+
+abbrev pub listRead : Result MechTypeList Fault → Result (List (List ℕ)) Fault
+listRead (Ok l) = listed l
+listRead (Err e) = Err e
+
+-- the first object identifier of a list, and what follows it
+abbrev pub splits : Option (RefT (List ℕ) × MechTypeList) → Option (List ℕ × List ℕ)
+splits None = None
+splits (Some x) = Some (x .0 .now, x .1 .oids .now)
+
+-- the first of a list before the others
+abbrev pub split : Option (RefT (List ℕ) × MechTypeList) → Result (List (List ℕ)) Fault
+split None = Ok []
+split (Some x) = before (x .0 .now) (listed (x .1))

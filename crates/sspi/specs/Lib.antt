@@ -1,0 +1,4 @@
+pub mod Kinds
+pub mod Layers
+pub mod Numbers
+pub mod Statuses
