@@ -1,9 +1,11 @@
--- Which way a test went, where the whole is known to be accepted.
-use mathlib.Core.Path.{_≡_, refl}
+-- Which way a test went, where the whole is known to be accepted; and what a refusal says.
+use mathlib.Core.Path.{_≡_, refl, subst}
 use mathlib.Core.Bool.{Bool, true, false, cond}
 use mathlib.Core.Logic.{_⊎_, inl, inr}
 use Prim.Native.Nat.{ℕ}
 use native.Mathlib.Omega.{arith}
+use Rattle.sspi.specs.declared.fault.Fault.{Fault}
+use Rattle.der.specs.Reading.{andThen}
 use Rattle.std.specs.declared.result.Result.{Result}
 use Rattle.std.specs.declared.result.Result.the-variants.{Ok, Err}
 
@@ -23,3 +25,19 @@ passed false e s x h = (refl, h)
 pub let-through : {X E : Type 0} (b : Bool) (e : E) (r : Result X E) (x : X) → cond b r (Err e) ≡ Ok x → (b ≡ true) × (r ≡ Ok x)
 let-through true e r x h = (refl, h)
 let-through false e r x h = absurd (err-ok e x h)
+
+-- whatever is refused is refused with the fault d
+abbrev pub Only : {X : Type 0} → Fault → Result X Fault → Type 0
+Only d (Ok x) = Unit {0}
+Only d (Err e) = e ≡ d
+
+pub only-at : {X : Type 0} (d e : Fault) (r : Result X Fault) → Only d r → r ≡ Err e → e ≡ d
+only-at d e r h p = subst (Only d) p h
+
+pub only-then : {X Y : Type 0} (d : Fault) (r : Result X Fault) (f : X → Result Y Fault) → Only d r → ((x : X) → Only d (f x)) → Only d (andThen r f)
+only-then d (Ok x) f h k = k x
+only-then d (Err e) f h k = h
+
+pub only-cond : {X : Type 0} (d : Fault) (b : Bool) (r s : Result X Fault) → Only d r → Only d s → Only d (cond b r s)
+only-cond d true r s h k = h
+only-cond d false r s h k = k

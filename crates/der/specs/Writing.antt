@@ -30,6 +30,13 @@ endOf out at bytes = cond (leb (at + length bytes) (length out)) (Ok (at + lengt
 abbrev pub put : List ℕ → ℕ → List ℕ → List ℕ
 put out at bytes = cond (leb (at + length bytes) (length out)) (over out at bytes) out
 
+-- the same for an element or its header, where the content has n bytes
+abbrev pub endIf : ℕ → List ℕ → ℕ → List ℕ → Result ℕ Fault
+endIf n out at bytes = cond (ltb n 65536) (endOf out at bytes) (Err invalid)
+
+abbrev pub putIf : ℕ → List ℕ → ℕ → List ℕ → List ℕ
+putIf n out at bytes = cond (ltb n 65536) (put out at bytes) out
+
 -- the length of an element with n bytes of content, if there is one
 abbrev pub elementLen : ℕ → Result ℕ Fault
 elementLen n = cond (ltb n 65536) (Ok (length (header 0 n) + n)) (Err invalid)

@@ -1,10 +1,8 @@
-ghost use lib.Dec.{ltb};
-ghost use mathlib.Core.Bool.{cond};
+ghost use lib.ListN.{length};
 ghost use mathlib.Core.Path.{_≡_};
-ghost use Rattle.std.specs.declared.result.Result.the-variants.{Ok, Err};
 ghost use Rattle.der.specs.Reading.{headOf, takeOf, onlyOf, oneElement, optionalOf, plainHead, plainTaken, plainPart, plainOptional};
-ghost use Rattle.der.specs.Elements.{header, oid, bitString};
-ghost use Rattle.der.specs.Writing.{invalid, endOf, put, elementLen};
+ghost use Rattle.der.specs.Elements.{header, element, oid, bitString};
+ghost use Rattle.der.specs.Writing.{endOf, put, endIf, putIf, elementLen};
 use sspi::ErrorKind;
 use sspi::Fault;
 use sspi::Layer;
@@ -132,8 +130,8 @@ pub fn put_bytes(out: &mut [u8], at: usize, bytes: &[u8]) -> Result<usize, Fault
 
 // Writes the header of an element with n bytes of content: each byte once, front to back.
 pub fn put_header(out: &mut [u8], at: usize, tag: u8, n: usize) -> Result<usize, Fault>
-    ensures answer { λ r. ⌜ r ≡ cond (ltb n 65536) (endOf (now (out .entry)) at (header tag n)) (Err invalid) ⌝ }
-    ensures holds { λ _. ⌜ now (out .exit) ≡ cond (ltb n 65536) (put (now (out .entry)) at (header tag n)) (now (out .entry)) ⌝ }
+    ensures answer { λ r. ⌜ r ≡ endIf n (now (out .entry)) at (header tag n) ⌝ }
+    ensures holds { λ _. ⌜ now (out .exit) ≡ putIf n (now (out .entry)) at (header tag n) ⌝ }
 {
     if n < 0x80 {
         put_bytes(out, at, &[tag, n as u8])
@@ -144,4 +142,17 @@ pub fn put_header(out: &mut [u8], at: usize, tag: u8, n: usize) -> Result<usize,
     } else {
         Err(INVALID)
     }
+}
+
+// Writes an element: its header, and behind it the content.
+pub fn put_element(out: &mut [u8], at: usize, tag: u8, content: &[u8]) -> Result<usize, Fault>
+    ensures answer { λ r. ⌜ r ≡ endIf (length (now (content .entry))) (now (out .entry)) at (element tag (now (content .entry))) ⌝ }
+    ensures holds { λ _. ⌜ now (out .exit) ≡ putIf (length (now (content .entry))) (now (out .entry)) at (element tag (now (content .entry))) ⌝ }
+{
+    let n = element_len(content.len())?;
+    if at > out.len() || n > out.len() - at {
+        return Err(TOO_SMALL);
+    }
+    let at = put_header(out, at, tag, content.len())?;
+    put_bytes(out, at, content)
 }

@@ -28,10 +28,7 @@ use Rattle.spnego.proofs.Inside.{field-written, field-read}
 pub goes-on : {X Y : Type 0} {r : Result X Fault} {x : X} (f : X → Result Y Fault) → r ≡ Ok x → andThen r f ≡ f x
 goes-on f e = ap (λ v. andThen v f) e
 
-abbrev Octets : Option (List ℕ) → Type 0
-Octets o = LegalField OctetString o
-
-octets-legal : (o : Option (List ℕ)) → Octets o
+pub octets-legal : (o : Option (List ℕ)) → LegalField OctetString o
 octets-legal None = tt
 octets-legal (Some part) = tt
 

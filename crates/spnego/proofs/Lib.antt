@@ -2,3 +2,4 @@ pub mod Listing
 pub mod Inside
 pub mod Fourfold
 pub mod Whole
+pub mod Putting
