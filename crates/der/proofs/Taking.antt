@@ -16,7 +16,7 @@ use Rattle.std.proofs.shelf.Tests.{lt-ltb, le-ltb, eq-eqb, ltb-false, eqb-true,
 use Rattle.sspi.specs.declared.fault.Fault.{Fault}
 use Rattle.der.specs.Elements.{tag, header, element, optional, Short}
 use Rattle.der.specs.Reading.{andThen, Head, Taken, headOf, cut, takeOf, onlyOf, begins, optionalOf, whole, oneElement, illegal}
-use Rattle.der.proofs.Ways.{ways, err-ok, passed, let-through}
+use Rattle.der.proofs.Ways.{ways, err-ok, passed, let-through, Only, only-then, only-cond}
 use Rattle.der.proofs.Heads.{head-written, head-read}
 
 -- both parts of an accepted sequence were accepted
@@ -122,3 +122,23 @@ one-element xs h =
     let x = w .0 in
     let f = take-read xs x (w .1) in
     (x .0, x .1, f .0 ∙ simp (w .2) (append-nil (element (x .0) (x .1))), f .1, f .2)
+
+-- whatever is refused is refused as an illegal token
+pub refused-take : (xs : List ℕ) → Only illegal (takeOf xs)
+refused-take xs =
+    only-then illegal (headOf xs) cut
+    (only-cond illegal (ltb (length xs) 2) _ _ refl
+        (only-cond illegal (ltb (getD xs 1 0) 128) _ _ tt
+        (only-cond illegal (eqb (getD xs 1 0) 0x81) _ _
+            (only-cond illegal (ltb (length xs) 3) _ _ refl (only-cond illegal (leb 128 (getD xs 2 0) && ltb (getD xs 2 0) 256) _ _ tt refl))
+        (only-cond illegal (eqb (getD xs 1 0) 0x82) _ _
+            (only-cond illegal (ltb (length xs) 4) _ _ refl
+                (only-cond illegal (leb 1 (getD xs 2 0) && (ltb (getD xs 2 0) 256 && ltb (getD xs 3 0) 256)) _ _ tt refl))
+            refl))))
+    (λ h. only-cond illegal (not (tag (h .0)) || ltb (length (h .2)) (h .1)) _ _ refl tt)
+
+pub refused-only : (t : ℕ) (xs : List ℕ) → Only illegal (onlyOf t xs)
+refused-only t xs = only-then illegal (takeOf xs) _ (refused-take xs) (λ x. only-cond illegal (eqb (x .0) t && eqb (length (x .2)) 0) _ _ tt refl)
+
+pub refused-optional : (t : ℕ) (xs : List ℕ) → Only illegal (optionalOf t xs)
+refused-optional t xs = only-cond illegal (begins t xs) _ _ (only-then illegal (takeOf xs) _ (refused-take xs) (λ x. tt)) tt

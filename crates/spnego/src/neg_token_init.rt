@@ -1,9 +1,11 @@
 ghost use mathlib.Core.Path.{_≡_};
 ghost use Rattle.der.specs.Writing.{Puts};
+ghost use Rattle.spnego.specs.Laws.{Exact, Within, Parts};
 ghost use Rattle.spnego.specs.Reading.{readInit};
 ghost use Rattle.spnego.specs.Tokens.{initFields, initBytes, InitWellFormed};
 ghost use Rattle.spnego.specs.Views.{plainFields, plainInit, plainLens, initRead, lensRead};
 ghost use Rattle.spnego.specs.Writing.{initLens, Writes};
+ghost use Rattle.std.specs.Vec.{made};
 ghost use Rattle.std.specs.declared.result.Result.the-variants.{Ok};
 use crate::fields::Lengths;
 use crate::fields::TokenFields;
@@ -32,7 +34,16 @@ pub struct NegTokenInit<'a> {
 }
 
 impl<'a> NegTokenInit<'a> {
+    // Reads a token that fills the input.
     pub fn read(input: &'a [u8]) -> Result<NegTokenInit<'a>, Fault>
+        ensures answer { λ r. ⌜ initRead r ≡ readInit (now (input .entry)) ⌝ }
+        ensures exact { λ r. ⌜ Exact InitWellFormed initBytes (now (input .entry)) (initRead r) ⌝ }
+        ensures parts { λ r. ⌜ made (initRead r) (λ t. Within (t .thisMech) (now (input .entry)) × Parts (now (input .entry)) (initFields t)) ⌝ }
+    {
+        Self::parse(input)
+    }
+
+    fn parse(input: &'a [u8]) -> Result<NegTokenInit<'a>, Fault>
         ensures { λ r. ⌜ initRead r ≡ readInit (now (input .entry)) ⌝ }
     {
         let (this_mech, rest) = next_oid(only(input, 0x60)?)?;

@@ -1,9 +1,11 @@
 ghost use mathlib.Core.Path.{_≡_};
 ghost use Rattle.der.specs.Writing.{Puts};
+ghost use Rattle.spnego.specs.Laws.{Exact, Parts};
 ghost use Rattle.spnego.specs.Reading.{readTarg};
 ghost use Rattle.spnego.specs.Tokens.{targFields, targBytes, TargWellFormed};
 ghost use Rattle.spnego.specs.Views.{plainFields, plainTarg, plainLens, targRead, lensRead};
 ghost use Rattle.spnego.specs.Writing.{targLens, Writes};
+ghost use Rattle.std.specs.Vec.{made};
 ghost use Rattle.std.specs.declared.result.Result.the-variants.{Ok};
 use crate::fields::Lengths;
 use crate::fields::TokenFields;
@@ -27,7 +29,16 @@ pub struct NegTokenTarg<'a> {
 }
 
 impl<'a> NegTokenTarg<'a> {
+    // Reads a token that fills the input.
     pub fn read(input: &'a [u8]) -> Result<NegTokenTarg<'a>, Fault>
+        ensures answer { λ r. ⌜ targRead r ≡ readTarg (now (input .entry)) ⌝ }
+        ensures exact { λ r. ⌜ Exact TargWellFormed targBytes (now (input .entry)) (targRead r) ⌝ }
+        ensures parts { λ r. ⌜ made (targRead r) (λ t. Parts (now (input .entry)) (targFields t)) ⌝ }
+    {
+        Self::parse(input)
+    }
+
+    fn parse(input: &'a [u8]) -> Result<NegTokenTarg<'a>, Fault>
         ensures { λ r. ⌜ targRead r ≡ readTarg (now (input .entry)) ⌝ }
     {
         let fields = sequence(only(input, 0xa1)?, Kind::Element, Kind::Oid)?;

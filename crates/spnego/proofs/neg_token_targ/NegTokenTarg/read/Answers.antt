@@ -1,15 +1,10 @@
-use borrow.Author.Needs.{needs}
-use Rattle.spnego.specs.Reading.{readTarg}
+use Rattle.spnego.proofs.Exactly.{exact-at-targ}
+use Rattle.spnego.proofs.Portions.{parts-at-targ}
 use Rattle.spnego.proofs.neg_token_targ.NegTokenTarg.read.Needs as need
 
-pub returns-in-Break-only : need.returns-in-Break-only
-unfolding readTarg
-returns-in-Break-only c = search needs
-
-pub returns-in-Break-fields : need.returns-in-Break-fields
-unfolding readTarg
-returns-in-Break-fields c = search needs
-
 pub returns : need.returns
-unfolding readTarg
-returns c = search needs
+returns c =
+    record {
+        answer = c .parse .ensures;
+        exact = exact-at-targ (c .args .input .now) _ (c .parse .ensures);
+        parts = parts-at-targ (c .args .input .now) _ (c .parse .ensures) }
