@@ -16,6 +16,9 @@ ways false r s x h = inr (refl, h)
 pub err-ok : {X E : Type 0} (e : E) (x : X) → _≡_ {A = Result X E} (Err e) (Ok x) → ⊥
 err-ok e x h = let z : _≡_ {A = ℕ} 0 1 = cc in omega arith
 
+pub same-ok : {X E : Type 0} (x y : X) → _≡_ {A = Result X E} (Ok x) (Ok y) → x ≡ y
+same-ok x y h = cc
+
 -- the test that refuses was false
 pub passed : {X E : Type 0} (b : Bool) (e : E) (s : Result X E) (x : X) → cond b (Err e) s ≡ Ok x → (b ≡ false) × (s ≡ Ok x)
 passed true e s x h = absurd (err-ok e x h)

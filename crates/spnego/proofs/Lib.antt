@@ -5,3 +5,4 @@ pub mod Whole
 pub mod Putting
 pub mod Exactly
 pub mod Portions
+pub mod Rows

@@ -146,7 +146,7 @@ pub field-bound : (k : Kind) (n : ℕ) (o : Option (List ℕ)) → Ok n ≡ fiel
 field-bound k n o r = field-size 0 k n o (sym r) .2
 
 -- every refusal of a length is the same
-only-element-len : (n : ℕ) → Only invalid (elementLen n)
+pub only-element-len : (n : ℕ) → Only invalid (elementLen n)
 only-element-len n = only-cond invalid (ltb n 65536) _ _ tt refl
 
 only-inside-len : (k : Kind) (n : ℕ) → Only invalid (insideLen k n)

@@ -1,6 +1,6 @@
 -- What the code's values say, their references read.
 use Prim.Native.Nat.{ℕ}
-use mathlib.Core.List.{List, []}
+use mathlib.Core.List.{List, [], map}
 use denote.Ref.{RefT}
 use Rattle.spnego.specs.Tokens.{Fields, Targ, Init}
 use Rattle.spnego.specs.Reading.{seen, before, oidsOf}
@@ -61,3 +61,7 @@ splits (Some x) = Some (x .0 .now, x .1 .oids .now)
 abbrev pub split : Option (RefT (List ℕ) × MechTypeList) → Result (List (List ℕ)) Fault
 split None = Ok []
 split (Some x) = before (x .0 .now) (listed (x .1))
+
+-- object identifiers that are to be written
+abbrev pub plainOids : List (RefT (List ℕ)) → List (List ℕ)
+plainOids os = map (λ (y : RefT (List ℕ)). y .now) os

@@ -2,8 +2,9 @@
 -- where the fields are not well-formed, is proved.
 use Prim.Native.Nat.{ℕ, _+_, _<_, _≤_}
 use mathlib.Core.Bool.{cond}
-use mathlib.Core.List.{List, _++_}
+use mathlib.Core.List.{List, [], _∷_, _++_}
 use mathlib.Core.Path.{_≡_}
+use lib.Dec.{ltb}
 use lib.ListN.{length, drop}
 use Rattle.der.specs.Elements.{oid}
 use Rattle.der.specs.Reading.{andThen}
@@ -68,3 +69,11 @@ initLens t =
     andThen (elementLen (s .1)) (λ i.
     andThen (elementLen (m + i)) (λ n. Ok (record { body = s .0; sequence = s .1; content = m + i; token = n }))))))
     (Err invalid)
+
+-- one object identifier of a list behind n bytes of others
+abbrev pub addOid : ℕ → List ℕ → Result ℕ Fault
+addOid n o = cond (oid o) (andThen (elementLen (length o)) (λ m. cond (ltb 65535 (n + m)) (Err invalid) (Ok (n + m)))) (Err invalid)
+
+abbrev pub oidsLenFrom : ℕ → List (List ℕ) → Result ℕ Fault
+oidsLenFrom n [] = Ok n
+oidsLenFrom n (o ∷ os) = andThen (addOid n o) (λ m. oidsLenFrom m os)
