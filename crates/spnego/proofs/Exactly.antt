@@ -12,13 +12,13 @@ use Rattle.std.specs.declared.result.Result.the-variants.{Ok, Err}
 use Rattle.sspi.specs.declared.fault.Fault.{Fault}
 use Rattle.der.specs.Elements.{oid}
 use Rattle.der.specs.Reading.{illegal, andThen, takeOf, onlyOf, optionalOf}
-use Rattle.der.proofs.Ways.{Only, only-at, only-then, only-cond}
+use Rattle.der.proofs.Ways.{same-ok, Only, only-at, only-then, only-cond}
 use Rattle.der.proofs.Taking.{refused-take, refused-only, refused-optional}
 use Rattle.spnego.specs.declared.part.Kind.{Kind}
 use Rattle.spnego.specs.declared.part.Kind.the-variants.{Element, MechTypes, Oid, BitString, OctetString}
 use Rattle.spnego.specs.Tokens.{mechTypeList, Targ, targBytes, TargWellFormed, Init, initBytes, InitWellFormed}
 use Rattle.spnego.specs.Reading.{nextOf, before, oidsUpTo, oidsOf, readMechTypeList, legalTest, partOf, innerOf, withinOf, fieldOf, fieldsOf, sequenceOf, readTarg, readInit}
-use Rattle.spnego.specs.Laws.{Exact, GoodList, OneWriting}
+use Rattle.spnego.specs.Laws.{Exact, GoodList, ReadBack, OneWriting, WrittenAgain}
 use Rattle.spnego.proofs.Listing.{list-written, list-read}
 use Rattle.spnego.proofs.Whole.{targ-written, targ-read, init-written, init-read}
 
@@ -93,13 +93,15 @@ pub exact-list : (xs : List ℕ) → Exact GoodList mechTypeList xs (readMechTyp
 exact-list =
     exact-from readMechTypeList (λ os g. list-written os (g .all) (g .short)) (λ xs os r. let p = list-read xs os r in (p .0, record { all = p .1; short = p .2 })) refused-list
 
--- what can be read back has one writing
-pub one-writing : {X : Type 0} (Good : X → Type 0) (bytes : X → List ℕ) (read : List ℕ → Result X Fault) → ((xs : List ℕ) → Exact Good bytes xs (read xs)) → OneWriting Good bytes
-one-writing Good bytes read exact x y g h e =
-    let p = exact (bytes x) .accepts x g refl in
-    let q = exact (bytes x) .accepts y h e in
-    let s : Ok x ≡ Ok y = sym p ∙ q in
-    cc
+-- what follows from exact reading
+pub read-back : {X : Type 0} {Good : X → Type 0} {bytes : X → List ℕ} {read : List ℕ → Result X Fault} → ((xs : List ℕ) → Exact Good bytes xs (read xs)) → ReadBack Good bytes read
+read-back {bytes = bytes} exact x g = exact (bytes x) .accepts x g refl
+
+pub one-writing : {X : Type 0} {Good : X → Type 0} {bytes : X → List ℕ} {read : List ℕ → Result X Fault} → ((xs : List ℕ) → Exact Good bytes xs (read xs)) → OneWriting Good bytes
+one-writing {bytes = bytes} exact x y g h e = same-ok x y (sym (exact (bytes x) .accepts x g refl) ∙ exact (bytes x) .accepts y h e)
+
+pub written-again : {X : Type 0} {Good : X → Type 0} {bytes : X → List ℕ} {read : List ℕ → Result X Fault} → ((xs : List ℕ) → Exact Good bytes xs (read xs)) → WrittenAgain bytes read
+written-again exact xs x r = sym (exact xs .accepted x r .1)
 
 -- the same of an answer that equals the reading
 pub exact-at-targ : (xs : List ℕ) (r : Result Targ Fault) → r ≡ readTarg xs → Exact TargWellFormed targBytes xs r

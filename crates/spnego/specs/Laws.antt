@@ -41,3 +41,11 @@ pub record GoodList (os : List (List ℕ)) : Type 0 where
 -- two well-formed field sets with the same writing are equal
 abbrev pub OneWriting : {X : Type 0} → (X → Type 0) → (X → List ℕ) → Type 0
 OneWriting {X} Good bytes = (x y : X) → Good x → Good y → bytes x ≡ bytes y → x ≡ y
+
+-- what is written is read back
+abbrev pub ReadBack : {X : Type 0} → (X → Type 0) → (X → List ℕ) → (List ℕ → Result X Fault) → Type 0
+ReadBack {X} Good bytes read = (x : X) → Good x → read (bytes x) ≡ Ok x
+
+-- a legal input is the writing of what is read from it
+abbrev pub WrittenAgain : {X : Type 0} → (X → List ℕ) → (List ℕ → Result X Fault) → Type 0
+WrittenAgain {X} bytes read = (input : List ℕ) (x : X) → read input ≡ Ok x → bytes x ≡ input
