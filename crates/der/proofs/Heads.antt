@@ -59,11 +59,11 @@ head-written t n xs h =
     ⊎-elim
     (λ l. ap F (len-short n l) ∙ sym (ok-short (t ∷ n ∷ xs) xs (omega arith) l refl))
     (λ l. ⊎-elim
-        (λ m. ap F (len-one n l m) ∙ sym (ok-one (t ∷ 129 ∷ n ∷ xs) xs (omega arith) refl l m refl))
-        (λ m. ap F (len-two n m)
-            ∙ (sym (ok-two (t ∷ 130 ∷ n / 256 ∷ n % 256 ∷ xs) xs (omega arith) refl (omega arith) (omega arith) (omega arith) refl)
-                ∙ ap (λ k. Ok (t, k, xs)) (div-add-mod' n 256)))
-        (cases-lt n 256))
+    (λ m. ap F (len-one n l m) ∙ sym (ok-one (t ∷ 129 ∷ n ∷ xs) xs (omega arith) refl l m refl))
+    (λ m. ap F (len-two n m)
+    ∙ (sym (ok-two (t ∷ 130 ∷ n / 256 ∷ n % 256 ∷ xs) xs (omega arith) refl (omega arith) (omega arith) (omega arith) refl)
+    ∙ ap (λ k. Ok (t, k, xs)) (div-add-mod' n 256)))
+    (cases-lt n 256))
     (cases-lt n 128)
 
 -- a list with so many elements, split at its front
@@ -127,7 +127,7 @@ head-read xs x r =
     ⊎-elim
     (λ s. let e : (getD xs 0 0, getD xs 1 0, drop 2 xs) ≡ x = cc (s .1) in short-sound xs x l (ltb-true _ _ (s .0)) e)
     (λ s. ⊎-elim
-        (λ o. one-sound xs x (eqb-true _ _ (o .0)) (o .1))
-        (λ o. let w = let-through (eqb (getD xs 1 0) 0x82) _ _ x (o .1) in two-sound xs x (eqb-true _ _ (w .0)) (w .1))
-        (ways (eqb (getD xs 1 0) 0x81) _ _ x (s .1)))
+    (λ o. one-sound xs x (eqb-true _ _ (o .0)) (o .1))
+    (λ o. let w = let-through (eqb (getD xs 1 0) 0x82) _ _ x (o .1) in two-sound xs x (eqb-true _ _ (w .0)) (w .1))
+    (ways (eqb (getD xs 1 0) 0x81) _ _ x (s .1)))
     (ways (ltb (getD xs 1 0) 128) _ _ x (p .1))

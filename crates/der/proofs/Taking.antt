@@ -43,7 +43,7 @@ joined-again : (t n : ℕ) (xs : List ℕ) → n ≤ length xs → element t (ta
 unfolding element
 joined-again t n xs l =
     append-assoc (header t (length (take n xs))) (take n xs) (drop n xs)
-        ∙ (ap (λ ys. header t (length (take n xs)) ++ ys) (take-append-drop n xs) ∙ ap (λ k. header t k ++ xs) (length-take-le n xs l))
+    ∙ (ap (λ ys. header t (length (take n xs)) ++ ys) (take-append-drop n xs) ∙ ap (λ k. header t k ++ xs) (length-take-le n xs l))
 
 -- what reading an element says of the input
 abbrev Tells : List ℕ → Taken → Type 0
@@ -97,12 +97,12 @@ optional-read t xs y r =
     let P : Option (List ℕ) × List ℕ → Type 0 = λ z. (xs ≡ optional t (z .0) ++ z .1) × Short (z .0) in
     ⊎-elim
     (λ w.
-        let b = both (takeOf xs) _ y (w .1) in
-        let x = b .0 in
-        let f = take-read xs x (b .1) in
-        let a : eqb (x .0) t ≡ true = sym (begins-element (x .0) t (x .1) (x .2)) ∙ (ap (begins t) (sym (f .0)) ∙ w .0) in
-        let e : (Some (x .1), x .2) ≡ y = cc (b .2) in
-        subst P e (f .0 ∙ ap (λ u. element u (x .1) ++ x .2) (eqb-true _ _ a), f .2))
+    let b = both (takeOf xs) _ y (w .1) in
+    let x = b .0 in
+    let f = take-read xs x (b .1) in
+    let a : eqb (x .0) t ≡ true = sym (begins-element (x .0) t (x .1) (x .2)) ∙ (ap (begins t) (sym (f .0)) ∙ w .0) in
+    let e : (Some (x .1), x .2) ≡ y = cc (b .2) in
+    subst P e (f .0 ∙ ap (λ u. element u (x .1) ++ x .2) (eqb-true _ _ a), f .2))
     (λ w. let e : (None, xs) ≡ y = cc (w .1) in subst P e (refl, tt))
     (ways (begins t xs) _ _ y r)
 
@@ -128,13 +128,13 @@ pub refused-take : (xs : List ℕ) → Only illegal (takeOf xs)
 refused-take xs =
     only-then illegal (headOf xs) cut
     (only-cond illegal (ltb (length xs) 2) _ _ refl
-        (only-cond illegal (ltb (getD xs 1 0) 128) _ _ tt
-        (only-cond illegal (eqb (getD xs 1 0) 0x81) _ _
-            (only-cond illegal (ltb (length xs) 3) _ _ refl (only-cond illegal (leb 128 (getD xs 2 0) && ltb (getD xs 2 0) 256) _ _ tt refl))
-        (only-cond illegal (eqb (getD xs 1 0) 0x82) _ _
-            (only-cond illegal (ltb (length xs) 4) _ _ refl
-                (only-cond illegal (leb 1 (getD xs 2 0) && (ltb (getD xs 2 0) 256 && ltb (getD xs 3 0) 256)) _ _ tt refl))
-            refl))))
+    (only-cond illegal (ltb (getD xs 1 0) 128) _ _ tt
+    (only-cond illegal (eqb (getD xs 1 0) 0x81) _ _
+    (only-cond illegal (ltb (length xs) 3) _ _ refl (only-cond illegal (leb 128 (getD xs 2 0) && ltb (getD xs 2 0) 256) _ _ tt refl))
+    (only-cond illegal (eqb (getD xs 1 0) 0x82) _ _
+    (only-cond illegal (ltb (length xs) 4) _ _ refl
+    (only-cond illegal (leb 1 (getD xs 2 0) && (ltb (getD xs 2 0) 256 && ltb (getD xs 3 0) 256)) _ _ tt refl))
+    refl))))
     (λ h. only-cond illegal (not (tag (h .0)) || ltb (length (h .2)) (h .1)) _ _ refl tt)
 
 pub refused-only : (t : ℕ) (xs : List ℕ) → Only illegal (onlyOf t xs)

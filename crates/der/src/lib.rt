@@ -8,13 +8,22 @@ use sspi::Fault;
 use sspi::Layer;
 
 // What every illegal byte string is refused with.
-pub const ILLEGAL: Fault = Fault { kind: ErrorKind::InvalidToken, layer: Layer::Token };
+pub const ILLEGAL: Fault = Fault {
+    kind: ErrorKind::InvalidToken,
+    layer: Layer::Token,
+};
 
 // What parts that make no legal token are refused with.
-pub const INVALID: Fault = Fault { kind: ErrorKind::InvalidParameter, layer: Layer::Token };
+pub const INVALID: Fault = Fault {
+    kind: ErrorKind::InvalidParameter,
+    layer: Layer::Token,
+};
 
 // What a writing that is longer than its room is refused with.
-pub const TOO_SMALL: Fault = Fault { kind: ErrorKind::BufferTooSmall, layer: Layer::Token };
+pub const TOO_SMALL: Fault = Fault {
+    kind: ErrorKind::BufferTooSmall,
+    layer: Layer::Token,
+};
 
 // Tag, length of the content, and what follows; only the shortest form of a length is legal.
 fn head(input: &[u8]) -> Result<(u8, usize, &[u8]), Fault>
@@ -23,7 +32,11 @@ fn head(input: &[u8]) -> Result<(u8, usize, &[u8]), Fault>
     match input {
         [tag, n @ 0..=0x7f, rest @ ..] => Ok((*tag, *n as usize, rest)),
         [tag, 0x81, n @ 0x80..=0xff, rest @ ..] => Ok((*tag, *n as usize, rest)),
-        [tag, 0x82, high @ 1..=0xff, low, rest @ ..] => Ok((*tag, *high as usize * 256 + *low as usize, rest)),
+        [tag, 0x82, high @ 1..=0xff, low, rest @ ..] => Ok((
+            *tag,
+            *high as usize * 256 + *low as usize,
+            rest,
+        )),
         _ => Err(ILLEGAL),
     }
 }

@@ -79,9 +79,10 @@ exact-from : {X : Type 0} {Good : X → Type 0} {bytes : X → List ℕ} (read :
     → ((xs : List ℕ) (x : X) → read xs ≡ Ok x → (xs ≡ bytes x) × Good x) → ((xs : List ℕ) → Only illegal (read xs)) → (xs : List ℕ) → Exact Good bytes xs (read xs)
 exact-from read w b o xs =
     record {
-        accepts = λ x g e. ap read e ∙ w x g;
-        accepted = λ x r. let p = b xs x r in (p .1, p .0);
-        refused = λ e r. only-at illegal e (read xs) (o xs) r }
+      accepts = λ x g e. ap read e ∙ w x g;
+      accepted = λ x r. let p = b xs x r in (p .1, p .0);
+      refused = λ e r. only-at illegal e (read xs) (o xs) r;
+    }
 
 pub exact-targ : (xs : List ℕ) → Exact TargWellFormed targBytes xs (readTarg xs)
 exact-targ = exact-from readTarg targ-written targ-read refused-targ

@@ -61,10 +61,10 @@ fields-written k l f h s =
     let n3 = length-append (field 0xA2 OctetString (f .third)) (field 0xA3 OctetString (f .fourth) ++ []) in
     let n4 = length-append (field 0xA3 OctetString (f .fourth)) [] in
     ap (fieldsOf k l) (ends-in-nil k l f)
-        ∙ (goes-on _ (field-written 0xA0 k (f .first) (from2 l f) refl (h .first) (omega arith) (begins2 0xA0 l f refl refl refl))
-        ∙ (goes-on _ (field-written 0xA1 l (f .second) (from3 f) refl (h .second) (omega arith) (begins3 0xA1 f refl refl))
-        ∙ (goes-on _ (field-written 0xA2 OctetString (f .third) (field 0xA3 OctetString (f .fourth) ++ []) refl (octets-legal (f .third)) (omega arith) (begins4 0xA2 (f .fourth) refl))
-        ∙ goes-on _ (field-written 0xA3 OctetString (f .fourth) [] refl (octets-legal (f .fourth)) (omega arith) refl))))
+    ∙ (goes-on _ (field-written 0xA0 k (f .first) (from2 l f) refl (h .first) (omega arith) (begins2 0xA0 l f refl refl refl))
+    ∙ (goes-on _ (field-written 0xA1 l (f .second) (from3 f) refl (h .second) (omega arith) (begins3 0xA1 f refl refl))
+    ∙ (goes-on _ (field-written 0xA2 OctetString (f .third) (field 0xA3 OctetString (f .fourth) ++ []) refl (octets-legal (f .third)) (omega arith) (begins4 0xA2 (f .fourth) refl))
+    ∙ goes-on _ (field-written 0xA3 OctetString (f .fourth) [] refl (octets-legal (f .fourth)) (omega arith) refl))))
 
 -- what reading the four fields says of the input
 abbrev Four : Kind → Kind → List ℕ → Fields → Type 0
@@ -89,7 +89,7 @@ fields-read k l xs f r =
     let f3 = field-read 0xA2 OctetString (y2 .1) y3 (b3 .1) in
     let f4 = field-read 0xA3 OctetString (y3 .1) y4 (b4 .1) in
     let last : y3 .1 ≡ field 0xA3 OctetString (y4 .0) =
-        f4 .0 ∙ (ap (λ v. field 0xA3 OctetString (y4 .0) ++ v) (nil-from-length (y4 .1) (eqb-true (length (y4 .1)) 0 (p .0))) ∙ append-nil (field 0xA3 OctetString (y4 .0))) in
+    f4 .0 ∙ (ap (λ v. field 0xA3 OctetString (y4 .0) ++ v) (nil-from-length (y4 .1) (eqb-true (length (y4 .1)) 0 (p .0))) ∙ append-nil (field 0xA3 OctetString (y4 .0))) in
     let third : y2 .1 ≡ field 0xA2 OctetString (y3 .0) ++ field 0xA3 OctetString (y4 .0) = f3 .0 ∙ ap (λ v. field 0xA2 OctetString (y3 .0) ++ v) last in
     let second = f2 .0 ∙ ap (λ v. field 0xA1 l (y2 .0) ++ v) third in
     subst (Four k l xs) e (f1 .0 ∙ ap (λ v. field 0xA0 k (y1 .0) ++ v) second, record { first = f1 .1; second = f2 .1 })

@@ -125,13 +125,13 @@ row-read (suc n) xs os r =
     ⊎-elim
     (λ w. row-none xs os (w .0) (w .1))
     (λ w.
-        let b = both (nextOf xs) _ os (w .1) in
-        let y = b .0 in
-        let f = next-read xs y (b .1) in
-        let d = both (oidsUpTo n (y .1)) _ os (b .2) in
-        let rest = row-read n (y .1) (d .0) (d .1) in
-        let p : y .0 ∷ d .0 ≡ os = cc (d .2) in
-        subst (Row xs) p (f .0 ∙ ap (λ v. element 0x06 (y .0) ++ v) (rest .0), and-from (oid (y .0)) (allOids (d .0)) (f .1) (rest .1)))
+    let b = both (nextOf xs) _ os (w .1) in
+    let y = b .0 in
+    let f = next-read xs y (b .1) in
+    let d = both (oidsUpTo n (y .1)) _ os (b .2) in
+    let rest = row-read n (y .1) (d .0) (d .1) in
+    let p : y .0 ∷ d .0 ≡ os = cc (d .2) in
+    subst (Row xs) p (f .0 ∙ ap (λ v. element 0x06 (y .0) ++ v) (rest .0), and-from (oid (y .0)) (allOids (d .0)) (f .1) (rest .1)))
     (ways (eqb (length xs) 0) (Ok []) _ os r)
 
 pub oids-read : (xs : List ℕ) (os : List (List ℕ)) → oidsOf xs ≡ Ok os → (xs ≡ oids os) × (allOids os ≡ true)

@@ -49,12 +49,13 @@ sequence-parts k l f xs up =
     let F3 : List ℕ = field 0xA2 OctetString (f .third) in
     let F4 : List ℕ = field 0xA3 OctetString (f .fourth) in
     record {
-        first = λ p e. up p (in-element 0x30 p (fourFields k l f) (on-left p F1 (F2 ++ (F3 ++ F4)) (in-field 0xA0 k (f .first) p e)));
-        second = λ p e. up p (in-element 0x30 p (fourFields k l f) (on-right p F1 (F2 ++ (F3 ++ F4)) (on-left p F2 (F3 ++ F4) (in-field 0xA1 l (f .second) p e))));
-        third = λ p e.
-            up p (in-element 0x30 p (fourFields k l f) (on-right p F1 (F2 ++ (F3 ++ F4)) (on-right p F2 (F3 ++ F4) (on-left p F3 F4 (in-field 0xA2 OctetString (f .third) p e)))));
-        fourth = λ p e.
-            up p (in-element 0x30 p (fourFields k l f) (on-right p F1 (F2 ++ (F3 ++ F4)) (on-right p F2 (F3 ++ F4) (on-right p F3 F4 (in-field 0xA3 OctetString (f .fourth) p e))))) }
+      first = λ p e. up p (in-element 0x30 p (fourFields k l f) (on-left p F1 (F2 ++ (F3 ++ F4)) (in-field 0xA0 k (f .first) p e)));
+      second = λ p e. up p (in-element 0x30 p (fourFields k l f) (on-right p F1 (F2 ++ (F3 ++ F4)) (on-left p F2 (F3 ++ F4) (in-field 0xA1 l (f .second) p e))));
+      third = λ p e.
+          up p (in-element 0x30 p (fourFields k l f) (on-right p F1 (F2 ++ (F3 ++ F4)) (on-right p F2 (F3 ++ F4) (on-left p F3 F4 (in-field 0xA2 OctetString (f .third) p e)))));
+      fourth = λ p e.
+          up p (in-element 0x30 p (fourFields k l f) (on-right p F1 (F2 ++ (F3 ++ F4)) (on-right p F2 (F3 ++ F4) (on-right p F3 F4 (in-field 0xA3 OctetString (f .fourth) p e)))));
+    }
 
 targ-parts : (t : Targ) → Parts (targBytes t) (targFields t)
 unfolding targBytes
@@ -71,9 +72,10 @@ init-parts : (t : Init) → InitParts (initBytes t) t
 unfolding initBytes initContent
 init-parts t =
     let M : List ℕ = element 0x06 (t .thisMech) in
-    let S : List ℕ = sequence MechTypes BitString (initFields t) in
-    (in-element 0x60 (t .thisMech) (initContent t) (on-left (t .thisMech) M (element 0xA0 S) (in-element 0x06 (t .thisMech) (t .thisMech) (whole (t .thisMech)))),
-        sequence-parts MechTypes BitString (initFields t) (initBytes t) (λ p w. in-element 0x60 p (initContent t) (on-right p M (element 0xA0 S) (in-element 0xA0 p S w))))
+    let S : List ℕ = sequence MechTypes BitString (initFields t) in (
+      in-element 0x60 (t .thisMech) (initContent t) (on-left (t .thisMech) M (element 0xA0 S) (in-element 0x06 (t .thisMech) (t .thisMech) (whole (t .thisMech)))),
+      sequence-parts MechTypes BitString (initFields t) (initBytes t) (λ p w. in-element 0x60 p (initContent t) (on-right p M (element 0xA0 S) (in-element 0xA0 p S w))),
+    )
 
 pub parts-at-init : (xs : List ℕ) (r : Result Init Fault) → r ≡ readInit xs → made r (λ t. Within (t .thisMech) xs × Parts xs (initFields t))
 parts-at-init xs (Ok t) e = subst (λ (v : List ℕ). InitParts v t) (sym (init-read xs t (sym e) .0)) (init-parts t)

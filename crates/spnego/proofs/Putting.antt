@@ -118,9 +118,9 @@ fields-len : (k l : Kind) (f : Fields) → LegalFields k l f → length (fourFie
 fields-len k l f h s =
     let m = four-lengths k l f in
     goes-on _ (field-len 0xA0 k (f .first) (h .first) (omega arith))
-        ∙ (goes-on _ (field-len 0xA1 l (f .second) (h .second) (omega arith))
-        ∙ (goes-on _ (field-len 0xA2 OctetString (f .third) (octets-legal (f .third)) (omega arith))
-        ∙ (goes-on _ (field-len 0xA3 OctetString (f .fourth) (octets-legal (f .fourth)) (omega arith)) ∙ ap Ok (omega arith))))
+    ∙ (goes-on _ (field-len 0xA1 l (f .second) (h .second) (omega arith))
+    ∙ (goes-on _ (field-len 0xA2 OctetString (f .third) (octets-legal (f .third)) (omega arith))
+    ∙ (goes-on _ (field-len 0xA3 OctetString (f .fourth) (octets-legal (f .fourth)) (omega arith)) ∙ ap Ok (omega arith))))
 
 -- Lengths of both tokens.
 pub sequence-size : (k l : Kind) (f : Fields) (s : ℕ × ℕ) → sequenceLen k l f ≡ Ok s
@@ -165,9 +165,9 @@ only-sequence-len : (k l : Kind) (f : Fields) → Only invalid (sequenceLen k l 
 only-sequence-len k l f =
     only-then invalid (fieldsLen k l f) _
     (only-then invalid (fieldLen k (f .first)) _ (only-field-len k (f .first)) (λ a.
-        only-then invalid (fieldLen l (f .second)) _ (only-field-len l (f .second)) (λ b.
-        only-then invalid (fieldLen OctetString (f .third)) _ (only-field-len OctetString (f .third)) (λ c.
-        only-then invalid (fieldLen OctetString (f .fourth)) _ (only-field-len OctetString (f .fourth)) (λ d. tt)))))
+    only-then invalid (fieldLen l (f .second)) _ (only-field-len l (f .second)) (λ b.
+    only-then invalid (fieldLen OctetString (f .third)) _ (only-field-len OctetString (f .third)) (λ c.
+    only-then invalid (fieldLen OctetString (f .fourth)) _ (only-field-len OctetString (f .fourth)) (λ d. tt)))))
     (λ body. only-then invalid (elementLen body) _ (only-element-len body) (λ n. tt))
 
 -- a writer's answer in each of the three cases
@@ -182,9 +182,10 @@ unfolding over
 writes-made bytes out after r g l p =
     let w = p (omega arith) in
     record {
-        unfit = λ bad. absurd (bad g);
-        short = λ _ k. absurd (omega arith);
-        written = λ _ _. (w .0 ∙ ap Ok (zero-add (length bytes)), w .1 ∙ ap (λ n. bytes ++ drop n out) (zero-add (length bytes))) }
+      unfit = λ bad. absurd (bad g);
+      short = λ _ k. absurd (omega arith);
+      written = λ _ _. (w .0 ∙ ap Ok (zero-add (length bytes)), w .1 ∙ ap (λ n. bytes ++ drop n out) (zero-add (length bytes)));
+    }
 
 -- NegTokenTarg
 pub record TargSizes (t : Targ) (n : Lens) : Type 0 where
@@ -208,9 +209,11 @@ targ-sizes t n r =
 pub targ-refused : (t : Targ) (e : Fault) → targLens t ≡ Err e → (TargWellFormed t → ⊥) × (e ≡ invalid)
 targ-refused t e r =
     let no : TargWellFormed t → ⊥ = λ g.
-        err-ok e _ (sym r ∙ (goes-on _ (sequence-len Element Oid (targFields t) (g .fields) (g .short)) ∙ goes-on _ (element-len 0xA1 (sequence Element Oid (targFields t)) (g .short)))) in
-    (no, only-at invalid e (targLens t)
-        (only-then invalid (sequenceLen Element Oid (targFields t)) _ (only-sequence-len Element Oid (targFields t)) (λ s. only-then invalid (elementLen (s .1)) _ (only-element-len (s .1)) (λ n. tt))) r)
+    err-ok e _ (sym r ∙ (goes-on _ (sequence-len Element Oid (targFields t) (g .fields) (g .short)) ∙ goes-on _ (element-len 0xA1 (sequence Element Oid (targFields t)) (g .short)))) in (
+      no,
+      only-at invalid e (targLens t)
+          (only-then invalid (sequenceLen Element Oid (targFields t)) _ (only-sequence-len Element Oid (targFields t)) (λ s. only-then invalid (elementLen (s .1)) _ (only-element-len (s .1)) (λ n. tt))) r,
+    )
 
 -- NegTokenInit
 pub record InitSizes (t : Init) (n : Lens) : Type 0 where
@@ -249,21 +252,25 @@ init-len t g =
     let m = length-element 0x06 (t .thisMech) in
     let k = length-element 0xA0 s in
     let l = g .short in
-    let whole : elementLen (length (element 0x06 (t .thisMech)) + length (element 0xA0 s)) ≡ Ok (length (element 0x60 (initContent t))) = ap elementLen (sym c) ∙ element-len 0x60 (initContent t) l in
-    (_, cond-true (oid (t .thisMech)) _ _ (g .thisMech)
-        ∙ (goes-on _ (element-len 0x06 (t .thisMech) (omega arith))
-        ∙ (goes-on _ (sequence-len MechTypes BitString (initFields t) (g .fields) (omega arith))
-        ∙ (goes-on _ (element-len 0xA0 s (omega arith)) ∙ goes-on _ whole))))
+    let whole : elementLen (length (element 0x06 (t .thisMech)) + length (element 0xA0 s)) ≡ Ok (length (element 0x60 (initContent t))) = ap elementLen (sym c) ∙ element-len 0x60 (initContent t) l in (
+      _,
+      cond-true (oid (t .thisMech)) _ _ (g .thisMech)
+          ∙ (goes-on _ (element-len 0x06 (t .thisMech) (omega arith))
+          ∙ (goes-on _ (sequence-len MechTypes BitString (initFields t) (g .fields) (omega arith))
+          ∙ (goes-on _ (element-len 0xA0 s (omega arith)) ∙ goes-on _ whole))),
+    )
 
 pub init-refused : (t : Init) (e : Fault) → initLens t ≡ Err e → (InitWellFormed t → ⊥) × (e ≡ invalid)
 init-refused t e r =
-    let no : InitWellFormed t → ⊥ = λ g. let n = init-len t g in err-ok e (n .0) (sym r ∙ n .1) in
-    (no, only-at invalid e (initLens t)
-        (only-cond invalid (oid (t .thisMech)) _ _
-            (only-then invalid (elementLen (length (t .thisMech))) _ (only-element-len (length (t .thisMech))) (λ m.
-            only-then invalid (sequenceLen MechTypes BitString (initFields t)) _ (only-sequence-len MechTypes BitString (initFields t)) (λ s.
-            only-then invalid (elementLen (s .1)) _ (only-element-len (s .1)) (λ i.
-            only-then invalid (elementLen (m + i)) _ (only-element-len (m + i)) (λ n. tt))))) refl) r)
+    let no : InitWellFormed t → ⊥ = λ g. let n = init-len t g in err-ok e (n .0) (sym r ∙ n .1) in (
+      no,
+      only-at invalid e (initLens t)
+          (only-cond invalid (oid (t .thisMech)) _ _
+          (only-then invalid (elementLen (length (t .thisMech))) _ (only-element-len (length (t .thisMech))) (λ m.
+          only-then invalid (sequenceLen MechTypes BitString (initFields t)) _ (only-sequence-len MechTypes BitString (initFields t)) (λ s.
+          only-then invalid (elementLen (s .1)) _ (only-element-len (s .1)) (λ i.
+          only-then invalid (elementLen (m + i)) _ (only-element-len (m + i)) (λ n. tt))))) refl) r,
+    )
 
 pub init-bounds : (t : Init) → InitWellFormed t → (length (t .thisMech) < 65536) × (length (sequence MechTypes BitString (initFields t)) < 65536)
 init-bounds t g =

@@ -108,17 +108,17 @@ pub row-more : (rs : Refs) (i : ℕ) (d : RefT (List ℕ)) → i < length rs →
 unfolding oids
 row-more rs i d l =
     ap (λ v. oids (plainOids v)) (take-more rs i d l)
-        ∙ (ap oids (map-append (λ (y : RefT (List ℕ)). y .now) (take i rs) (getD rs i d ∷ []))
-        ∙ (oids-append (plainOids (take i rs)) (getD rs i d .now ∷ []) ∙ ap (λ v. oids (plainOids (take i rs)) ++ v) (append-nil (element 0x06 (getD rs i d .now)))))
+    ∙ (ap oids (map-append (λ (y : RefT (List ℕ)). y .now) (take i rs) (getD rs i d ∷ []))
+    ∙ (oids-append (plainOids (take i rs)) (getD rs i d .now ∷ []) ∙ ap (λ v. oids (plainOids (take i rs)) ++ v) (append-nil (element 0x06 (getD rs i d .now)))))
 
 pub row-split : (rs : Refs) (i : ℕ) (d : RefT (List ℕ)) → i < length rs
     → oids (plainOids rs) ≡ oids (plainOids (take i rs)) ++ (element 0x06 (getD rs i d .now) ++ oids (plainOids (drop (i + 1) rs)))
 row-split rs i d l =
     ap (λ v. oids (plainOids v)) (sym (take-append-drop (i + 1) rs))
-        ∙ (ap oids (map-append (λ (y : RefT (List ℕ)). y .now) (take (i + 1) rs) (drop (i + 1) rs))
-        ∙ (oids-append (plainOids (take (i + 1) rs)) (plainOids (drop (i + 1) rs))
-        ∙ (ap (λ v. v ++ oids (plainOids (drop (i + 1) rs))) (row-more rs i d l)
-        ∙ append-assoc (oids (plainOids (take i rs))) (element 0x06 (getD rs i d .now)) (oids (plainOids (drop (i + 1) rs))))))
+    ∙ (ap oids (map-append (λ (y : RefT (List ℕ)). y .now) (take (i + 1) rs) (drop (i + 1) rs))
+    ∙ (oids-append (plainOids (take (i + 1) rs)) (plainOids (drop (i + 1) rs))
+    ∙ (ap (λ v. v ++ oids (plainOids (drop (i + 1) rs))) (row-more rs i d l)
+    ∙ append-assoc (oids (plainOids (take i rs))) (element 0x06 (getD rs i d .now)) (oids (plainOids (drop (i + 1) rs))))))
 
 -- an object identifier of a list that can be written
 row-fits : (rs : Refs) (i : ℕ) (d : RefT (List ℕ)) → i < length rs → length (oids (plainOids rs)) < 65536 → length (getD rs i d .now) < 65536
@@ -147,8 +147,8 @@ pub row-refused : (rs : Refs) (i start at : ℕ) (d : RefT (List ℕ)) (e : Faul
 row-refused rs i start at d e r out mid after l p q =
     let P : List ℕ → Type 0 = λ v. Puts r out start v after in
     subst P (sym (row-split rs i d l))
-        (puts-puts r out (oids (plainOids (take i rs))) mid (element 0x06 (getD rs i d .now) ++ oids (plainOids (drop (i + 1) rs))) after start at p
-            (puts-refused e r mid (element 0x06 (getD rs i d .now)) after (oids (plainOids (drop (i + 1) rs))) after at q))
+    (puts-puts r out (oids (plainOids (take i rs))) mid (element 0x06 (getD rs i d .now) ++ oids (plainOids (drop (i + 1) rs))) after start at p
+    (puts-refused e r mid (element 0x06 (getD rs i d .now)) after (oids (plainOids (drop (i + 1) rs))) after at q))
 
 pub row-all : (rs : Refs) (i start at : ℕ) (out after : List ℕ) → length rs ≤ i → Puts (Ok at) out start (oids (plainOids (take i rs))) after → Puts (Ok at) out start (oids (plainOids rs)) after
 row-all rs i start at out after l p = subst (λ (v : Refs). Puts (Ok at) out start (oids (plainOids v)) after) (take-all i rs l) p

@@ -19,7 +19,7 @@ pub targ-written : (t : Targ) → TargWellFormed t → readTarg (targBytes t) �
 unfolding readTarg targBytes
 targ-written t h =
     goes-on _ (only-written 0xA1 (sequence Element Oid (targFields t)) refl (h .short))
-        ∙ goes-on (λ f. Ok (targOf f)) (sequence-written Element Oid (targFields t) (h .fields) (h .short))
+    ∙ goes-on (λ f. Ok (targOf f)) (sequence-written Element Oid (targFields t) (h .fields) (h .short))
 
 -- what reading a token says of the input
 abbrev TargTells : List ℕ → Targ → Type 0
@@ -46,9 +46,9 @@ init-written t h =
     let k = length-element 0xA0 body in
     let l = h .short in
     goes-on _ (only-written 0x60 (initContent t) refl l)
-        ∙ (goes-on _ (next-written (t .thisMech) (element 0xA0 body) (h .thisMech) (omega arith))
-        ∙ (goes-on _ (only-written 0xA0 body refl (omega arith))
-        ∙ goes-on (λ f. Ok (initOf (t .thisMech) f)) (sequence-written MechTypes BitString (initFields t) (h .fields) (omega arith))))
+    ∙ (goes-on _ (next-written (t .thisMech) (element 0xA0 body) (h .thisMech) (omega arith))
+    ∙ (goes-on _ (only-written 0xA0 body refl (omega arith))
+    ∙ goes-on (λ f. Ok (initOf (t .thisMech) f)) (sequence-written MechTypes BitString (initFields t) (h .fields) (omega arith))))
 
 abbrev InitTells : List ℕ → Init → Type 0
 InitTells xs t = (xs ≡ initBytes t) × InitWellFormed t

@@ -45,7 +45,12 @@ fn fields<'a>(input: &'a [u8], first: Kind, second: Kind) -> Result<TokenFields<
     if !rest.is_empty() {
         return Err(ILLEGAL);
     }
-    Ok(TokenFields { first: a, second: b, third: c, fourth: d })
+    Ok(TokenFields {
+        first: a,
+        second: b,
+        third: c,
+        fourth: d,
+    })
 }
 
 // Reads the sequence of the four fields, which fills the input.
@@ -67,7 +72,11 @@ fn fields_len(fields: TokenFields<'_>, first: Kind, second: Kind) -> Result<usiz
 }
 
 // The lengths of the four fields and of the sequence around them.
-pub fn sequence_len(fields: TokenFields<'_>, first: Kind, second: Kind) -> Result<(usize, usize), Fault>
+pub fn sequence_len(
+    fields: TokenFields<'_>,
+    first: Kind,
+    second: Kind,
+) -> Result<(usize, usize), Fault>
     ensures { λ r. ⌜ r ≡ sequenceLen first second (plainFields (fields .entry)) ⌝ }
 {
     let body = fields_len(fields, first, second)?;
@@ -75,7 +84,13 @@ pub fn sequence_len(fields: TokenFields<'_>, first: Kind, second: Kind) -> Resul
 }
 
 // Writes the four fields.
-fn put_fields(out: &mut [u8], at: usize, fields: TokenFields<'_>, first: Kind, second: Kind) -> Result<usize, Fault>
+fn put_fields(
+    out: &mut [u8],
+    at: usize,
+    fields: TokenFields<'_>,
+    first: Kind,
+    second: Kind,
+) -> Result<usize, Fault>
     requires { ⌜ length (fourFields first second (plainFields fields)) < 65536 ⌝ }
     ensures { λ r. ⌜ Puts r (now (out .entry)) at (fourFields first second (plainFields (fields .entry))) (now (out .exit)) ⌝ }
 {
@@ -86,7 +101,14 @@ fn put_fields(out: &mut [u8], at: usize, fields: TokenFields<'_>, first: Kind, s
 }
 
 // Writes the sequence of the four fields, which take `body` bytes.
-pub fn put_sequence(out: &mut [u8], at: usize, fields: TokenFields<'_>, first: Kind, second: Kind, body: usize) -> Result<usize, Fault>
+pub fn put_sequence(
+    out: &mut [u8],
+    at: usize,
+    fields: TokenFields<'_>,
+    first: Kind,
+    second: Kind,
+    body: usize,
+) -> Result<usize, Fault>
     requires { ⌜ body ≡ length (fourFields first second (plainFields fields)) ⌝ ∗ ⌜ body < 65536 ⌝ }
     ensures { λ r. ⌜ Puts r (now (out .entry)) at (sequenceBytes first second (plainFields (fields .entry))) (now (out .exit)) ⌝ }
 {

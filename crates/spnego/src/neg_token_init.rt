@@ -48,13 +48,24 @@ impl<'a> NegTokenInit<'a> {
     {
         let (this_mech, rest) = next_oid(only(input, 0x60)?)?;
         let fields = sequence(only(rest, 0xa0)?, Kind::MechTypes, Kind::BitString)?;
-        Ok(NegTokenInit { this_mech, mech_types: fields.first, req_flags: fields.second, mech_token: fields.third, mech_list_mic: fields.fourth })
+        Ok(NegTokenInit {
+            this_mech,
+            mech_types: fields.first,
+            req_flags: fields.second,
+            mech_token: fields.third,
+            mech_list_mic: fields.fourth,
+        })
     }
 
     fn fields(&self) -> TokenFields<'a>
         ensures { λ r. ⌜ plainFields r ≡ initFields (plainInit (now (self .entry))) ⌝ }
     {
-        TokenFields { first: self.mech_types, second: self.req_flags, third: self.mech_token, fourth: self.mech_list_mic }
+        TokenFields {
+            first: self.mech_types,
+            second: self.req_flags,
+            third: self.mech_token,
+            fourth: self.mech_list_mic,
+        }
     }
 
     fn lengths(&self) -> Result<Lengths, Fault>
@@ -67,7 +78,12 @@ impl<'a> NegTokenInit<'a> {
         let (body, sequence) = sequence_len(self.fields(), Kind::MechTypes, Kind::BitString)?;
         let content = mech + element_len(sequence)?;
         let token = element_len(content)?;
-        Ok(Lengths { body, sequence, content, token })
+        Ok(Lengths {
+            body,
+            sequence,
+            content,
+            token,
+        })
     }
 
     fn put(&self, out: &mut [u8], n: Lengths) -> Result<usize, Fault>
@@ -77,7 +93,14 @@ impl<'a> NegTokenInit<'a> {
         let at = put_header(out, 0, 0x60, n.content)?;
         let at = put_element(out, at, 0x06, self.this_mech)?;
         let at = put_header(out, at, 0xa0, n.sequence)?;
-        put_sequence(out, at, self.fields(), Kind::MechTypes, Kind::BitString, n.body)
+        put_sequence(
+            out,
+            at,
+            self.fields(),
+            Kind::MechTypes,
+            Kind::BitString,
+            n.body,
+        )
     }
 
     // Writes the token to the front of `out`, and gives its length.

@@ -42,13 +42,23 @@ impl<'a> NegTokenTarg<'a> {
         ensures { λ r. ⌜ targRead r ≡ readTarg (now (input .entry)) ⌝ }
     {
         let fields = sequence(only(input, 0xa1)?, Kind::Element, Kind::Oid)?;
-        Ok(NegTokenTarg { neg_state: fields.first, supported_mech: fields.second, response_token: fields.third, mech_list_mic: fields.fourth })
+        Ok(NegTokenTarg {
+            neg_state: fields.first,
+            supported_mech: fields.second,
+            response_token: fields.third,
+            mech_list_mic: fields.fourth,
+        })
     }
 
     fn fields(&self) -> TokenFields<'a>
         ensures { λ r. ⌜ plainFields r ≡ targFields (plainTarg (now (self .entry))) ⌝ }
     {
-        TokenFields { first: self.neg_state, second: self.supported_mech, third: self.response_token, fourth: self.mech_list_mic }
+        TokenFields {
+            first: self.neg_state,
+            second: self.supported_mech,
+            third: self.response_token,
+            fourth: self.mech_list_mic,
+        }
     }
 
     fn lengths(&self) -> Result<Lengths, Fault>
@@ -56,7 +66,12 @@ impl<'a> NegTokenTarg<'a> {
     {
         let (body, sequence) = sequence_len(self.fields(), Kind::Element, Kind::Oid)?;
         let token = element_len(sequence)?;
-        Ok(Lengths { body, sequence, content: sequence, token })
+        Ok(Lengths {
+            body,
+            sequence,
+            content: sequence,
+            token,
+        })
     }
 
     fn put(&self, out: &mut [u8], n: Lengths) -> Result<usize, Fault>

@@ -124,7 +124,13 @@ fn put_present(out: &mut [u8], at: usize, tag: u8, kind: Kind, part: &[u8]) -> R
 }
 
 // Writes a field, which may be absent.
-pub fn put_field(out: &mut [u8], at: usize, tag: u8, kind: Kind, part: Option<&[u8]>) -> Result<usize, Fault>
+pub fn put_field(
+    out: &mut [u8],
+    at: usize,
+    tag: u8,
+    kind: Kind,
+    part: Option<&[u8]>,
+) -> Result<usize, Fault>
     requires { ⌜ length (fieldBytes tag kind (seen part)) < 65536 ⌝ }
     ensures { λ r. ⌜ Puts r (now (out .entry)) at (fieldBytes tag kind (seen (part .entry))) (now (out .exit)) ⌝ }
 {

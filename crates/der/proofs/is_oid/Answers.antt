@@ -15,11 +15,12 @@ returns-then-b c =
 
 pub loop-b-again : need.loop-b-again
 loop-b-again c =
-    elim (c .else-begins .came)
-    [ else-begins·by·then-begins·else-b w ↦
-        sym (arcs-begin (c .loop-b .begins) (c .args .content .now) (c .loop-b .b-index) (c .loop-b-test .taken) (w .if-begins .taken) (w .if-b .left)) ∙ c .loop-b .inv
-    | else-begins·by·else-begins w ↦
-        sym (arcs-inside (c .loop-b .begins) (c .args .content .now) (c .loop-b .b-index) (c .loop-b-test .taken) (w .if-begins .left)) ∙ c .loop-b .inv ]
+    elim (c .else-begins .came) [
+      | else-begins·by·then-begins·else-b w ↦
+          sym (arcs-begin (c .loop-b .begins) (c .args .content .now) (c .loop-b .b-index) (c .loop-b-test .taken) (w .if-begins .taken) (w .if-b .left)) ∙ c .loop-b .inv
+      | else-begins·by·else-begins w ↦
+          sym (arcs-inside (c .loop-b .begins) (c .args .content .now) (c .loop-b .b-index) (c .loop-b-test .taken) (w .if-begins .left)) ∙ c .loop-b .inv
+    ]
 
 pub returns : need.returns
 returns c =

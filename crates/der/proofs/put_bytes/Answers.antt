@@ -12,5 +12,6 @@ unfolding over
 returns c =
     let h : c .args .at + length (c .args .bytes .now) ≤ length (c .args .out .now) = omega arith in
     record {
-        answer = simp (le-leb (c .args .at + length (c .args .bytes .now)) (length (c .args .out .now)) h);
-        holds = simp (le-leb (c .args .at + length (c .args .bytes .now)) (length (c .args .out .now)) h) (search (needs, overwrites)) }
+      answer = simp (le-leb (c .args .at + length (c .args .bytes .now)) (length (c .args .out .now)) h);
+      holds = simp (le-leb (c .args .at + length (c .args .bytes .now)) (length (c .args .out .now)) h) (search (needs, overwrites));
+    }

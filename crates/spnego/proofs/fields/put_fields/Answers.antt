@@ -34,4 +34,4 @@ pub returns : need.returns
 unfolding fourFields
 returns c =
     puts-puts _ _ _ _ _ _ _ _ (c .in-Continue-at .ensures tt)
-        (puts-puts _ _ _ _ _ _ _ _ (c .in-Continue-at-2 .ensures tt) (puts-puts _ _ _ _ _ _ _ _ (c .in-Continue-at-3 .ensures tt) (c .put-field-4 .ensures)))
+    (puts-puts _ _ _ _ _ _ _ _ (c .in-Continue-at-2 .ensures tt) (puts-puts _ _ _ _ _ _ _ _ (c .in-Continue-at-3 .ensures tt) (c .put-field-4 .ensures)))

@@ -10,9 +10,9 @@ returns-in-Oid c =
 pub returns-in-BitString : need.returns-in-BitString
 returns-in-BitString c =
     puts-wrapped (c .args .kind) 0x03 _ _ _ (c .args .part .now) _ (ap (λ k. inside k (c .args .part .now)) (c .in-BitString .is)) (c .pre)
-        (c .put-element-in-BitString .ensures .answer) (c .put-element-in-BitString .ensures .holds)
+    (c .put-element-in-BitString .ensures .answer) (c .put-element-in-BitString .ensures .holds)
 
 pub returns-in-OctetString : need.returns-in-OctetString
 returns-in-OctetString c =
     puts-wrapped (c .args .kind) 0x04 _ _ _ (c .args .part .now) _ (ap (λ k. inside k (c .args .part .now)) (c .in-OctetString .is)) (c .pre)
-        (c .put-element-in-OctetString .ensures .answer) (c .put-element-in-OctetString .ensures .holds)
+    (c .put-element-in-OctetString .ensures .answer) (c .put-element-in-OctetString .ensures .holds)

@@ -9,7 +9,7 @@ returns-in-Break-inside-len c = absurd (inside-not-refused (c .args .tag) (c .ar
 pub returns-in-Break-at : need.returns-in-Break-at
 returns-in-Break-at c =
     refused-element _ _ _ _ _ (inside (c .args .kind) (c .args .part .now)) _ (c .args .tag)
-        (puts-before (c .args .tag) _ _ (c .args .kind) _ _ (c .args .part .now) _ (c .pre) (c .in-Continue-inside-len .ensures tt) (c .in-Break-at .ensures tt .answer) (c .put-header .ensures .holds))
+    (puts-before (c .args .tag) _ _ (c .args .kind) _ _ (c .args .part .now) _ (c .pre) (c .in-Continue-inside-len .ensures tt) (c .in-Break-at .ensures tt .answer) (c .put-header .ensures .holds))
 
 pub put-inside-requires : need.put-inside-requires
 put-inside-requires c κs = inside-fits (c .args .tag) (c .args .kind) (c .args .part .now) (c .pre)
@@ -17,5 +17,5 @@ put-inside-requires c κs = inside-fits (c .args .tag) (c .args .kind) (c .args 
 pub returns : need.returns
 returns c =
     puts-element _ _ _ _ (inside (c .args .kind) (c .args .part .now)) _ _ (c .args .tag)
-        (puts-before (c .args .tag) _ _ (c .args .kind) _ _ (c .args .part .now) _ (c .pre) (c .in-Continue-inside-len .ensures tt) (c .in-Continue-at .ensures tt .answer) (c .put-header .ensures .holds))
-        (c .put-inside .ensures)
+    (puts-before (c .args .tag) _ _ (c .args .kind) _ _ (c .args .part .now) _ (c .pre) (c .in-Continue-inside-len .ensures tt) (c .in-Continue-at .ensures tt .answer) (c .put-header .ensures .holds))
+    (c .put-inside .ensures)

@@ -32,8 +32,8 @@ returns-in-Break-at c =
     let z = list-sizes (plainOids (c .args .oids .now)) (c .in-Continue-body .body) (c .in-Continue-body .ensures tt) in
     let n = same-ok _ _ (c .in-Continue-element-len .ensures tt ∙ z .token) in
     writes-made (mechTypeList (plainOids (c .args .oids .now))) (c .args .out .now) _ _ (z .good) (omega (arith, n, c .if-branch .left))
-        (refused-element _ _ _ _ _ (oids (plainOids (c .args .oids .now))) _ 0x30
-            (puts-header 0x30 _ (c .in-Continue-body .body) _ _ _ _ (z .body) (z .fits) (c .in-Break-at .ensures tt .answer) (c .put-header .ensures .holds)))
+    (refused-element _ _ _ _ _ (oids (plainOids (c .args .oids .now))) _ 0x30
+    (puts-header 0x30 _ (c .in-Continue-body .body) _ _ _ _ (z .body) (z .fits) (c .in-Break-at .ensures tt .answer) (c .put-header .ensures .holds)))
 
 pub put-oids-requires : need.put-oids-requires
 put-oids-requires c κs = list-sizes (plainOids (c .args .oids .now)) (c .in-Continue-body .body) (c .in-Continue-body .ensures tt) .good .short
@@ -44,6 +44,6 @@ returns c =
     let z = list-sizes (plainOids (c .args .oids .now)) (c .in-Continue-body .body) (c .in-Continue-body .ensures tt) in
     let n = same-ok _ _ (c .in-Continue-element-len .ensures tt ∙ z .token) in
     writes-made (mechTypeList (plainOids (c .args .oids .now))) (c .args .out .now) _ _ (z .good) (omega (arith, n, c .if-branch .left))
-        (puts-element _ _ _ _ (oids (plainOids (c .args .oids .now))) _ _ 0x30
-            (puts-header 0x30 _ (c .in-Continue-body .body) _ _ _ _ (z .body) (z .fits) (c .in-Continue-at .ensures tt .answer) (c .put-header .ensures .holds))
-            (c .put-oids .ensures))
+    (puts-element _ _ _ _ (oids (plainOids (c .args .oids .now))) _ _ 0x30
+    (puts-header 0x30 _ (c .in-Continue-body .body) _ _ _ _ (z .body) (z .fits) (c .in-Continue-at .ensures tt .answer) (c .put-header .ensures .holds))
+    (c .put-oids .ensures))

@@ -5,5 +5,8 @@ use Rattle.spnego.proofs.neg_token_init.NegTokenInit.lengths.Needs as need
 
 pub add-content : need.add-content
 add-content c =
-    omega (arith, element-bound (length (c .args .self .now .«this_mech» .now)) (c .in-Continue-mech .mech) (c .in-Continue-mech .ensures tt),
-        element-bound (c .in-Continue-body .sequence) (c .in-Continue-content .field-0) (c .in-Continue-content .ensures tt))
+    omega (
+      arith,
+      element-bound (length (c .args .self .now .«this_mech» .now)) (c .in-Continue-mech .mech) (c .in-Continue-mech .ensures tt),
+      element-bound (c .in-Continue-body .sequence) (c .in-Continue-content .field-0) (c .in-Continue-content .ensures tt),
+    )

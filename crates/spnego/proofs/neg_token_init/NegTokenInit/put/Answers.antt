@@ -15,7 +15,7 @@ unfolding initBytes
 returns-in-Break-at c =
     let z = init-sizes (plainInit (c .args .self .now)) (plainLens (c .args .n)) (c .pre) in
     refused-element _ _ _ _ _ (initContent (plainInit (c .args .self .now))) _ 0x60
-        (puts-header 0x60 _ (c .args .n .content) _ _ _ _ (z .content) (omega (arith, z .content, z .good .short)) (c .in-Break-at .ensures tt .answer) (c .put-header .ensures .holds))
+    (puts-header 0x60 _ (c .args .n .content) _ _ _ _ (z .content) (omega (arith, z .content, z .good .short)) (c .in-Break-at .ensures tt .answer) (c .put-header .ensures .holds))
 
 pub returns-in-Break-at-2 : need.returns-in-Break-at-2
 unfolding initBytes initContent
@@ -23,8 +23,8 @@ returns-in-Break-at-2 c =
     let z = init-sizes (plainInit (c .args .self .now)) (plainLens (c .args .n)) (c .pre) in
     let b = init-bounds (plainInit (c .args .self .now)) (z .good) in
     puts-element _ _ _ _ (initContent (plainInit (c .args .self .now))) _ _ 0x60
-        (puts-header 0x60 _ (c .args .n .content) _ _ _ _ (z .content) (omega (arith, z .content, z .good .short)) (c .in-Continue-at .ensures tt .answer) (c .put-header .ensures .holds))
-        (puts-refused _ _ _ _ _ _ _ _ (puts-if (length (c .args .self .now .«this_mech» .now)) _ _ _ _ _ (b .0) (c .in-Break-at-2 .ensures tt .answer) (c .put-element .ensures .holds)))
+    (puts-header 0x60 _ (c .args .n .content) _ _ _ _ (z .content) (omega (arith, z .content, z .good .short)) (c .in-Continue-at .ensures tt .answer) (c .put-header .ensures .holds))
+    (puts-refused _ _ _ _ _ _ _ _ (puts-if (length (c .args .self .now .«this_mech» .now)) _ _ _ _ _ (b .0) (c .in-Break-at-2 .ensures tt .answer) (c .put-element .ensures .holds)))
 
 pub returns-in-Break-at-3 : need.returns-in-Break-at-3
 unfolding initBytes initContent
@@ -32,11 +32,11 @@ returns-in-Break-at-3 c =
     let z = init-sizes (plainInit (c .args .self .now)) (plainLens (c .args .n)) (c .pre) in
     let b = init-bounds (plainInit (c .args .self .now)) (z .good) in
     puts-element _ _ _ _ (initContent (plainInit (c .args .self .now))) _ _ 0x60
-        (puts-header 0x60 _ (c .args .n .content) _ _ _ _ (z .content) (omega (arith, z .content, z .good .short)) (c .in-Continue-at .ensures tt .answer) (c .put-header .ensures .holds))
-        (puts-puts _ _ _ _ _ _ _ _
-            (puts-if (length (c .args .self .now .«this_mech» .now)) _ _ _ _ _ (b .0) (c .in-Continue-at-2 .ensures tt .answer) (c .put-element .ensures .holds))
-            (refused-element _ _ _ _ _ (sequence MechTypes BitString (initFields (plainInit (c .args .self .now)))) _ 0xA0
-                (puts-header 0xA0 _ (c .args .n .sequence) _ _ _ _ (z .sequence) (omega (arith, z .sequence, b .1)) (c .in-Break-at-3 .ensures tt .answer) (c .put-header-2 .ensures .holds))))
+    (puts-header 0x60 _ (c .args .n .content) _ _ _ _ (z .content) (omega (arith, z .content, z .good .short)) (c .in-Continue-at .ensures tt .answer) (c .put-header .ensures .holds))
+    (puts-puts _ _ _ _ _ _ _ _
+    (puts-if (length (c .args .self .now .«this_mech» .now)) _ _ _ _ _ (b .0) (c .in-Continue-at-2 .ensures tt .answer) (c .put-element .ensures .holds))
+    (refused-element _ _ _ _ _ (sequence MechTypes BitString (initFields (plainInit (c .args .self .now)))) _ 0xA0
+    (puts-header 0xA0 _ (c .args .n .sequence) _ _ _ _ (z .sequence) (omega (arith, z .sequence, b .1)) (c .in-Break-at-3 .ensures tt .answer) (c .put-header-2 .ensures .holds))))
 
 pub put-sequence-requires : need.put-sequence-requires
 put-sequence-requires c κs =
@@ -50,8 +50,8 @@ returns c =
     let b = init-bounds (plainInit (c .args .self .now)) (z .good) in
     let q = subst (λ (f : Fields). Puts (c .put-sequence .result) (c .put-header-2 .last .out) (c .in-Continue-at-3 .at) (sequence MechTypes BitString f) (c .put-sequence .last .out)) (c .fields .ensures) (c .put-sequence .ensures) in
     puts-element _ _ _ _ (initContent (plainInit (c .args .self .now))) _ _ 0x60
-        (puts-header 0x60 _ (c .args .n .content) _ _ _ _ (z .content) (omega (arith, z .content, z .good .short)) (c .in-Continue-at .ensures tt .answer) (c .put-header .ensures .holds))
-        (puts-puts _ _ _ _ _ _ _ _
-            (puts-if (length (c .args .self .now .«this_mech» .now)) _ _ _ _ _ (b .0) (c .in-Continue-at-2 .ensures tt .answer) (c .put-element .ensures .holds))
-            (puts-element _ _ _ _ (sequence MechTypes BitString (initFields (plainInit (c .args .self .now)))) _ _ 0xA0
-                (puts-header 0xA0 _ (c .args .n .sequence) _ _ _ _ (z .sequence) (omega (arith, z .sequence, b .1)) (c .in-Continue-at-3 .ensures tt .answer) (c .put-header-2 .ensures .holds)) q))
+    (puts-header 0x60 _ (c .args .n .content) _ _ _ _ (z .content) (omega (arith, z .content, z .good .short)) (c .in-Continue-at .ensures tt .answer) (c .put-header .ensures .holds))
+    (puts-puts _ _ _ _ _ _ _ _
+    (puts-if (length (c .args .self .now .«this_mech» .now)) _ _ _ _ _ (b .0) (c .in-Continue-at-2 .ensures tt .answer) (c .put-element .ensures .holds))
+    (puts-element _ _ _ _ (sequence MechTypes BitString (initFields (plainInit (c .args .self .now)))) _ _ 0xA0
+    (puts-header 0xA0 _ (c .args .n .sequence) _ _ _ _ (z .sequence) (omega (arith, z .sequence, b .1)) (c .in-Continue-at-3 .ensures tt .answer) (c .put-header-2 .ensures .holds)) q))

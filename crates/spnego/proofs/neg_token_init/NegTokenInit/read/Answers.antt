@@ -5,6 +5,7 @@ use Rattle.spnego.proofs.neg_token_init.NegTokenInit.read.Needs as need
 pub returns : need.returns
 returns c =
     record {
-        answer = c .parse .ensures;
-        exact = exact-at-init (c .args .input .now) _ (c .parse .ensures);
-        parts = parts-at-init (c .args .input .now) _ (c .parse .ensures) }
+      answer = c .parse .ensures;
+      exact = exact-at-init (c .args .input .now) _ (c .parse .ensures);
+      parts = parts-at-init (c .args .input .now) _ (c .parse .ensures);
+    }

@@ -14,7 +14,7 @@ unfolding targBytes
 returns-in-Break-at c =
     let z = targ-sizes (plainTarg (c .args .self .now)) (plainLens (c .args .n)) (c .pre) in
     refused-element _ _ _ _ _ (sequence Element Oid (targFields (plainTarg (c .args .self .now)))) _ 0xA1
-        (puts-header 0xA1 _ (c .args .n .content) _ _ _ _ (z .content) (omega (arith, z .content, z .good .short)) (c .in-Break-at .ensures tt .answer) (c .put-header .ensures .holds))
+    (puts-header 0xA1 _ (c .args .n .content) _ _ _ _ (z .content) (omega (arith, z .content, z .good .short)) (c .in-Break-at .ensures tt .answer) (c .put-header .ensures .holds))
 
 pub put-sequence-requires : need.put-sequence-requires
 put-sequence-requires c κs =
@@ -27,4 +27,4 @@ returns c =
     let z = targ-sizes (plainTarg (c .args .self .now)) (plainLens (c .args .n)) (c .pre) in
     let q = subst (λ (f : Fields). Puts (c .put-sequence .result) (c .put-header .last .out) (c .in-Continue-at .at) (sequence Element Oid f) (c .put-sequence .last .out)) (c .fields .ensures) (c .put-sequence .ensures) in
     puts-element _ _ _ _ (sequence Element Oid (targFields (plainTarg (c .args .self .now)))) _ _ 0xA1
-        (puts-header 0xA1 _ (c .args .n .content) _ _ _ _ (z .content) (omega (arith, z .content, z .good .short)) (c .in-Continue-at .ensures tt .answer) (c .put-header .ensures .holds)) q
+    (puts-header 0xA1 _ (c .args .n .content) _ _ _ _ (z .content) (omega (arith, z .content, z .good .short)) (c .in-Continue-at .ensures tt .answer) (c .put-header .ensures .holds)) q
