@@ -16,7 +16,7 @@ use Rattle.std.proofs.shelf.Tests.{lt-ltb, le-ltb, eq-eqb, ltb-false, eqb-true,
 use Rattle.sspi.specs.declared.fault.Fault.{Fault}
 use Rattle.der.specs.Elements.{tag, header, element, optional, Short}
 use Rattle.der.specs.Reading.{andThen, Head, Taken, headOf, cut, takeOf, onlyOf, begins, optionalOf, whole, oneElement, illegal}
-use Rattle.der.proofs.Ways.{ways, err-ok, passed, let-through, Only, only-then, only-cond}
+use Rattle.der.proofs.Ways.{ways, err-ok, same-ok, passed, let-through, Only, only-then, only-cond}
 use Rattle.der.proofs.Heads.{head-written, head-read}
 
 -- both parts of an accepted sequence were accepted
@@ -61,6 +61,12 @@ take-read xs x r =
     let n : length (take (h .1) (h .2)) ≡ h .1 = length-take-le (h .1) (h .2) l in
     let P : Taken → Type 0 = λ y. Tells xs y in
     subst P e (front .0 ∙ sym (joined-again (h .0) (h .1) (h .2) l), not-false _ (o .0), omega (arith, front .1))
+
+-- reading it tells which element it is
+pub one-writing : (t u : ℕ) (c d r s : List ℕ) → tag t ≡ true → tag u ≡ true → length c < 65536 → length d < 65536 → element t c ++ r ≡ element u d ++ s → (t ≡ u) × (c ≡ d) × (r ≡ s)
+one-writing t u c d r s h k l m e =
+    let p : (t, c, r) ≡ (u, d, s) = same-ok _ _ (sym (take-written t c r h l) ∙ (ap takeOf e ∙ take-written u d s k m)) in
+    (ap (λ x. x .0) p, ap (λ x. x .1) p, ap (λ x. x .2) p)
 
 pub only-written : (t : ℕ) (c : List ℕ) → tag t ≡ true → length c < 65536 → onlyOf t (element t c) ≡ Ok c
 only-written t c h l =

@@ -1,6 +1,8 @@
 -- Elements as X.690 writes them under the distinguished rules, cut down to what a token uses: a tag of one byte, a length in its
 -- shortest form, and that many bytes of content. This file knows only how an element is written, and nothing of a reader.
-use Prim.Native.Nat.{ℕ, _/_, _%_, _<_}
+use Prim.Native.Nat.{ℕ, _-_, _/_, _%_, _<_, _≤_}
+use mathlib.Core.Path.{_≡_}
+use mathlib.Core.Logic.{_⊎_}
 use mathlib.Core.Bool.{Bool, true, cond, not, _&&_, _||_}
 use mathlib.Core.List.{List, [], _∷_, _++_}
 use lib.Bits.{bitAnd}
@@ -34,7 +36,24 @@ abbrev pub Short : Option (List ℕ) → Type 0
 Short None = Unit {0}
 Short (Some content) = length content < 65536
 
--- the content of an object identifier is a row of arcs: every byte of an arc but its last is 0x80 or more, and its first is not 0x80.
+-- byte k begins an arc: it is the first byte, or the byte before it ends an arc
+abbrev pub ArcBegins : List ℕ → ℕ → Type 0
+ArcBegins content k = (k ≡ 0) ⊎ (getD content (k - 1) 0 < 0x80)
+
+-- the rule of an object identifier: its content is one or more arcs, the last byte of each is below 0x80 and the others are not, and
+-- no arc begins with 0x80, which would add nothing to its number
+pub record ObjectIdentifier (content : List ℕ) : Type 0 where
+  pub some : 0 < length content
+  pub ends : getD content (length content - 1) 0 < 0x80
+  pub starts : (k : ℕ) → k < length content → ArcBegins content k → getD content k 0 ≡ 0x80 → ⊥
+
+-- the rule of a bit string: its first byte is the number of unused bits in the last byte, and 0 if no byte follows
+pub record BitString (content : List ℕ) : Type 0 where
+  pub some : 0 < length content
+  pub unused : getD content 0 0 ≤ 7
+  pub none : length content ≡ 1 → getD content 0 0 ≡ 0
+
+-- how a reader decides the two rules. The content of an object identifier is a row of arcs: every byte of an arc but its last is 0x80 or more, and its first is not 0x80.
 -- `begins` says whether the next byte begins an arc
 abbrev pub arcs : Bool → List ℕ → Bool
 arcs begins [] = begins
@@ -44,6 +63,5 @@ arcs begins (b ∷ bs) = not (begins && eqb b 0x80) && arcs (ltb b 0x80) bs
 unfoldable pub oid : List ℕ → Bool
 oid content = ltb 0 (length content) && arcs true content
 
--- the content of a bit string: the number of unused bits in the last byte, which is 0 if no byte follows
 unfoldable pub bitString : List ℕ → Bool
 bitString content = ltb 0 (length content) && (leb (getD content 0 0) 7 && (ltb 1 (length content) || eqb (getD content 0 0) 0))

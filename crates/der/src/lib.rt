@@ -1,7 +1,9 @@
 ghost use lib.ListN.{length};
 ghost use mathlib.Core.Path.{_≡_};
 ghost use Rattle.der.specs.Reading.{headOf, takeOf, onlyOf, oneElement, optionalOf, plainHead, plainTaken, plainPart, plainOptional};
-ghost use Rattle.der.specs.Elements.{header, element, oid, bitString};
+ghost use Rattle.der.specs.Elements.{header, element, oid, bitString, ObjectIdentifier, BitString};
+ghost use Rattle.std.specs.Orderings.{Decides};
+ghost use Rattle.der.specs.Laws.{ReadBack, OnlyWritten, RefusedIllegal, OneWriting};
 ghost use Rattle.der.specs.Writing.{endOf, put, endIf, putIf, elementLen};
 use sspi::ErrorKind;
 use sspi::Fault;
@@ -87,7 +89,8 @@ pub fn optional(input: &[u8], tag: u8) -> Result<(Option<&[u8]>, &[u8]), Fault>
 
 // Whether this is the content of an object identifier.
 pub fn is_oid(content: &[u8]) -> bool
-    ensures { λ r. ⌜ r ≡ oid (now (content .entry)) ⌝ }
+    ensures answer { λ r. ⌜ r ≡ oid (now (content .entry)) ⌝ }
+    ensures rule { λ r. ⌜ Decides r (ObjectIdentifier (now (content .entry))) ⌝ }
 {
     if content.is_empty() {
         return false;
@@ -104,7 +107,8 @@ pub fn is_oid(content: &[u8]) -> bool
 
 // Whether this is the content of a bit string.
 pub fn is_bit_string(content: &[u8]) -> bool
-    ensures { λ r. ⌜ r ≡ bitString (now (content .entry)) ⌝ }
+    ensures answer { λ r. ⌜ r ≡ bitString (now (content .entry)) ⌝ }
+    ensures rule { λ r. ⌜ Decides r (BitString (now (content .entry))) ⌝ }
 {
     match content {
         [] => false,
@@ -169,3 +173,11 @@ pub fn put_element(out: &mut [u8], at: usize, tag: u8, content: &[u8]) -> Result
     let at = put_header(out, at, tag, content.len())?;
     put_bytes(out, at, content)
 }
+
+// The law of reading and writing: a legal element is read back, nothing but its one writing is read, and all else is refused as illegal.
+pub fn an_element_has_one_writing()
+    ensures back { λ _. ⌜ ReadBack ⌝ }
+    ensures only { λ _. ⌜ OnlyWritten ⌝ }
+    ensures refused { λ _. ⌜ RefusedIllegal ⌝ }
+    ensures one { λ _. ⌜ OneWriting ⌝ }
+{}

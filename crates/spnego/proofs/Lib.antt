@@ -6,3 +6,4 @@ pub mod Putting
 pub mod Exactly
 pub mod Portions
 pub mod Rows
+pub mod Named

@@ -3,3 +3,4 @@ pub mod Reading
 pub mod Writing
 pub mod Views
 pub mod Laws
+pub mod Names

@@ -1,17 +1,20 @@
 use mathlib.Core.Path.{_≡_, sym, _∙_}
 use mathlib.Core.Bool.{true}
 use Rattle.der.specs.Elements.{arcs, oid}
-use Rattle.der.proofs.Rules.{arcs-stop, arcs-inside, arcs-begin, arcs-all, oid-none, oid-some}
+use Rattle.der.proofs.Rules.{arcs-stop, arcs-inside, arcs-begin, arcs-all, oid-none, oid-some, oid-ruled}
 use Rattle.der.proofs.is_oid.Needs as need
 use Rattle.der.proofs.is_oid.Needs.{else-begins·by·then-begins·else-b, else-begins·by·else-begins}
 
 pub returns-then-is-empty : need.returns-then-is-empty
-returns-then-is-empty c = sym (oid-none (c .args .content .now) (sym (c .if-is-empty .ensures tt)))
+returns-then-is-empty c =
+    let e = sym (oid-none (c .args .content .now) (sym (c .if-is-empty .ensures tt))) in
+    record { answer = e; rule = oid-ruled _ (c .args .content .now) e }
 
 pub returns-then-b : need.returns-then-b
 returns-then-b c =
     let stop = arcs-stop (c .loop-b .begins) (c .args .content .now) (c .loop-b .b-index) (c .loop-b-test .taken) (c .if-begins .taken) (c .if-b .taken) in
-    sym stop ∙ (c .loop-b .inv ∙ sym (oid-some (c .args .content .now) (sym (c .if-is-empty .ensures tt))))
+    let e = sym stop ∙ (c .loop-b .inv ∙ sym (oid-some (c .args .content .now) (sym (c .if-is-empty .ensures tt)))) in
+    record { answer = e; rule = oid-ruled _ (c .args .content .now) e }
 
 pub loop-b-again : need.loop-b-again
 loop-b-again c =
@@ -25,4 +28,5 @@ loop-b-again c =
 pub returns : need.returns
 returns c =
     let all = arcs-all (c .loop-b .begins) (c .args .content .now) (c .loop-b .b-index) (c .loop-b-test .left) in
-    sym all ∙ (c .loop-b .inv ∙ sym (oid-some (c .args .content .now) (sym (c .if-is-empty .ensures tt))))
+    let e = sym all ∙ (c .loop-b .inv ∙ sym (oid-some (c .args .content .now) (sym (c .if-is-empty .ensures tt)))) in
+    record { answer = e; rule = oid-ruled _ (c .args .content .now) e }

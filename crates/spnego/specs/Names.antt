@@ -1,0 +1,37 @@
+-- The byte strings that have names.
+use Prim.Native.Nat.{ℕ}
+use mathlib.Core.Bool.{cond}
+use mathlib.Core.List.{List, [], _∷_}
+use Rattle.std.specs.declared.option.Option.{Option}
+use Rattle.std.specs.declared.option.Option.the-variants.{Some, None}
+use Rattle.std.specs.shelf.Text.{sameBytes}
+use Rattle.spnego.specs.declared.names.Mech.{Mech}
+use Rattle.spnego.specs.declared.names.Mech.the-variants.{Spnego, MsKrb5, Krb5, Ntlm}
+use Rattle.spnego.specs.declared.names.NegState.{NegState}
+use Rattle.spnego.specs.declared.names.NegState.the-variants.{Complete, Incomplete, Reject, RequestMic}
+
+-- a, if x is the byte string of a, and otherwise the answer of the others
+abbrev pub ifNamed : {A : Type 0} → (A → List ℕ) → List ℕ → A → Option A → Option A
+ifNamed bytes x a others = cond (sameBytes x (bytes a)) (Some a) others
+
+-- the content of a mechanism's object identifier
+abbrev pub mechOid : Mech → List ℕ
+mechOid Spnego = 0x2B ∷ 0x06 ∷ 0x01 ∷ 0x05 ∷ 0x05 ∷ 0x02 ∷ []
+mechOid MsKrb5 = 0x2A ∷ 0x86 ∷ 0x48 ∷ 0x82 ∷ 0xF7 ∷ 0x12 ∷ 0x01 ∷ 0x02 ∷ 0x02 ∷ []
+mechOid Krb5 = 0x2A ∷ 0x86 ∷ 0x48 ∷ 0x86 ∷ 0xF7 ∷ 0x12 ∷ 0x01 ∷ 0x02 ∷ 0x02 ∷ []
+mechOid Ntlm = 0x2B ∷ 0x06 ∷ 0x01 ∷ 0x04 ∷ 0x01 ∷ 0x82 ∷ 0x37 ∷ 0x02 ∷ 0x02 ∷ 0x0A ∷ []
+
+-- the mechanism with an object identifier
+abbrev pub mechOf : List ℕ → Option Mech
+mechOf x = ifNamed mechOid x Spnego (ifNamed mechOid x MsKrb5 (ifNamed mechOid x Krb5 (ifNamed mechOid x Ntlm None)))
+
+-- the element, ENUMERATED, that says a state
+abbrev pub stateBytes : NegState → List ℕ
+stateBytes Complete = 0x0A ∷ 0x01 ∷ 0x00 ∷ []
+stateBytes Incomplete = 0x0A ∷ 0x01 ∷ 0x01 ∷ []
+stateBytes Reject = 0x0A ∷ 0x01 ∷ 0x02 ∷ []
+stateBytes RequestMic = 0x0A ∷ 0x01 ∷ 0x03 ∷ []
+
+-- the state that an element says
+abbrev pub stateOf : List ℕ → Option NegState
+stateOf x = ifNamed stateBytes x Complete (ifNamed stateBytes x Incomplete (ifNamed stateBytes x Reject (ifNamed stateBytes x RequestMic None)))
