@@ -6,4 +6,3 @@ pub mod Putting
 pub mod Exactly
 pub mod Portions
 pub mod Rows
-pub mod Named

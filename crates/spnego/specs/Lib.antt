@@ -3,4 +3,3 @@ pub mod Reading
 pub mod Writing
 pub mod Views
 pub mod Laws
-pub mod Names

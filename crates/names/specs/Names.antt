@@ -5,14 +5,15 @@ use mathlib.Core.List.{List, [], _∷_}
 use Rattle.std.specs.declared.option.Option.{Option}
 use Rattle.std.specs.declared.option.Option.the-variants.{Some, None}
 use Rattle.std.specs.shelf.Text.{sameBytes}
-use Rattle.spnego.specs.declared.names.Mech.{Mech}
-use Rattle.spnego.specs.declared.names.Mech.the-variants.{Spnego, MsKrb5, Krb5, Ntlm}
-use Rattle.spnego.specs.declared.names.NegState.{NegState}
-use Rattle.spnego.specs.declared.names.NegState.the-variants.{Complete, Incomplete, Reject, RequestMic}
+use Rattle.names.specs.declared.mech.Mech.{Mech}
+use Rattle.names.specs.declared.mech.Mech.the-variants.{Spnego, MsKrb5, Krb5, Ntlm}
+use Rattle.names.specs.declared.neg_state.NegState.{NegState}
+use Rattle.names.specs.declared.neg_state.NegState.the-variants.{Complete, Incomplete, Reject, RequestMic}
 
--- a, if x is the byte string of a, and otherwise the answer of the others
-abbrev pub ifNamed : {A : Type 0} → (A → List ℕ) → List ℕ → A → Option A → Option A
-ifNamed bytes x a others = cond (sameBytes x (bytes a)) (Some a) others
+-- the first of a list that has the byte string
+abbrev pub firstNamed : {X : Type 0} → (X → List ℕ) → List X → List ℕ → Option X
+firstNamed spelling [] bytes = None
+firstNamed spelling (x ∷ xs) bytes = cond (sameBytes bytes (spelling x)) (Some x) (firstNamed spelling xs bytes)
 
 -- the content of a mechanism's object identifier
 abbrev pub mechOid : Mech → List ℕ
@@ -23,7 +24,7 @@ mechOid Ntlm = 0x2B ∷ 0x06 ∷ 0x01 ∷ 0x04 ∷ 0x01 ∷ 0x82 ∷ 0x37 ∷ 0x
 
 -- the mechanism with an object identifier
 abbrev pub mechOf : List ℕ → Option Mech
-mechOf x = ifNamed mechOid x Spnego (ifNamed mechOid x MsKrb5 (ifNamed mechOid x Krb5 (ifNamed mechOid x Ntlm None)))
+mechOf oid = firstNamed mechOid (Spnego ∷ MsKrb5 ∷ Krb5 ∷ Ntlm ∷ []) oid
 
 -- the element, ENUMERATED, that says a state
 abbrev pub stateBytes : NegState → List ℕ
@@ -34,4 +35,4 @@ stateBytes RequestMic = 0x0A ∷ 0x01 ∷ 0x03 ∷ []
 
 -- the state that an element says
 abbrev pub stateOf : List ℕ → Option NegState
-stateOf x = ifNamed stateBytes x Complete (ifNamed stateBytes x Incomplete (ifNamed stateBytes x Reject (ifNamed stateBytes x RequestMic None)))
+stateOf bytes = firstNamed stateBytes (Complete ∷ Incomplete ∷ Reject ∷ RequestMic ∷ []) bytes
