@@ -3,3 +3,4 @@ pub mod Heads
 pub mod Rules
 pub mod Overs
 pub mod Taking
+pub mod Promised

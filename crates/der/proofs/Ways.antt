@@ -1,5 +1,5 @@
 -- Which way a test went, where the whole is known to be accepted; and what a refusal says.
-use mathlib.Core.Path.{_≡_, refl, subst}
+use mathlib.Core.Path.{_≡_, refl, ap, subst}
 use mathlib.Core.Bool.{Bool, true, false, cond}
 use mathlib.Core.Logic.{_⊎_, inl, inr}
 use Prim.Native.Nat.{ℕ}
@@ -44,3 +44,7 @@ only-then d (Err e) f h k = h
 pub only-cond : {X : Type 0} (d : Fault) (b : Bool) (r s : Result X Fault) → Only d r → Only d s → Only d (cond b r s)
 only-cond d true r s h k = h
 only-cond d false r s h k = k
+
+-- an accepted first part of a sequence hands its value on
+pub goes-on : {X Y : Type 0} {r : Result X Fault} {x : X} (f : X → Result Y Fault) → r ≡ Ok x → andThen r f ≡ f x
+goes-on f e = ap (λ v. andThen v f) e

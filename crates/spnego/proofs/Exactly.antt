@@ -1,4 +1,4 @@
--- Reading is exact: both directions of `Whole` and `Listing`, and one fault for all the rest.
+-- Reading is exact: both directions of `Whole`, and one fault for all the rest.
 use Prim.Native.Nat.{ℕ, zero, suc, _+_, _<_, _≤_}
 use mathlib.Core.Path.{_≡_, refl, ap, sym, subst, _∙_}
 use mathlib.Core.Bool.{true, false, cond, _&&_}
@@ -10,31 +10,18 @@ use Rattle.std.specs.declared.option.Option.the-variants.{Some, None}
 use Rattle.std.specs.declared.result.Result.{Result}
 use Rattle.std.specs.declared.result.Result.the-variants.{Ok, Err}
 use Rattle.sspi.specs.declared.fault.Fault.{Fault}
-use Rattle.der.specs.Elements.{oid}
-use Rattle.der.specs.Reading.{illegal, andThen, takeOf, onlyOf, optionalOf}
-use Rattle.der.proofs.Ways.{same-ok, Only, only-at, only-then, only-cond}
-use Rattle.der.proofs.Taking.{refused-take, refused-only, refused-optional}
+use Rattle.der.specs.Promises.{Exact}
+use Rattle.der.specs.Reading.{illegal, onlyOf, optionalOf}
+use Rattle.der.proofs.Promised.{exact-from}
+use Rattle.der.proofs.Ways.{Only, only-then, only-cond}
+use Rattle.der.proofs.Taking.{refused-only, refused-optional}
+use Rattle.mech_types.specs.Reading.{nextOf}
+use Rattle.mech_types.proofs.Listing.{refused-next}
 use Rattle.spnego.specs.declared.part.Kind.{Kind}
 use Rattle.spnego.specs.declared.part.Kind.the-variants.{Element, MechTypes, Oid, BitString, OctetString}
-use Rattle.spnego.specs.Tokens.{mechTypeList, Targ, targBytes, TargWellFormed, Init, initBytes, InitWellFormed}
-use Rattle.spnego.specs.Reading.{nextOf, before, oidsUpTo, oidsOf, readMechTypeList, legalTest, partOf, innerOf, withinOf, fieldOf, fieldsOf, sequenceOf, readTarg, readInit}
-use Rattle.spnego.specs.Laws.{Exact, GoodList, ReadBack, OneWriting, WrittenAgain}
-use Rattle.spnego.proofs.Listing.{list-written, list-read}
+use Rattle.spnego.specs.Tokens.{Targ, targBytes, TargWellFormed, Init, initBytes, InitWellFormed}
+use Rattle.spnego.specs.Reading.{legalTest, partOf, innerOf, withinOf, fieldOf, fieldsOf, sequenceOf, readTarg, readInit}
 use Rattle.spnego.proofs.Whole.{targ-written, targ-read, init-written, init-read}
-
-refused-next : (xs : List ℕ) → Only illegal (nextOf xs)
-refused-next xs = only-then illegal (takeOf xs) _ (refused-take xs) (λ x. only-cond illegal (eqb (x .0) 0x06 && oid (x .1)) _ _ tt refl)
-
-refused-up-to : (n : ℕ) (xs : List ℕ) → Only illegal (oidsUpTo n xs)
-unfolding oidsUpTo
-refused-up-to zero xs = only-cond illegal (eqb (length xs) 0) _ _ tt refl
-refused-up-to (suc n) xs =
-    only-cond illegal (eqb (length xs) 0) _ _ tt
-    (only-then illegal (nextOf xs) _ (refused-next xs) (λ x. only-then illegal (oidsUpTo n (x .1)) _ (refused-up-to n (x .1)) (λ os. tt)))
-
-refused-list : (xs : List ℕ) → Only illegal (readMechTypeList xs)
-unfolding readMechTypeList oidsOf
-refused-list xs = only-then illegal (onlyOf 0x30 xs) oidsOf (refused-only 0x30 xs) (λ c. refused-up-to (length c) c)
 
 refused-part : (k : Kind) (content : List ℕ) → Only illegal (partOf k content)
 refused-part Element content = tt
@@ -74,35 +61,11 @@ refused-init xs =
     only-then illegal (onlyOf 0xA0 (m .1)) _ (refused-only 0xA0 (m .1)) (λ s.
     only-then illegal (sequenceOf MechTypes BitString s) _ (refused-sequence MechTypes BitString s) (λ f. tt))))
 
--- a reader that undoes the writing and accepts nothing else is exact
-exact-from : {X : Type 0} {Good : X → Type 0} {bytes : X → List ℕ} (read : List ℕ → Result X Fault) → ((x : X) → Good x → read (bytes x) ≡ Ok x)
-    → ((xs : List ℕ) (x : X) → read xs ≡ Ok x → (xs ≡ bytes x) × Good x) → ((xs : List ℕ) → Only illegal (read xs)) → (xs : List ℕ) → Exact Good bytes xs (read xs)
-exact-from read w b o xs =
-    record {
-      accepts = λ x g e. ap read e ∙ w x g;
-      accepted = λ x r. let p = b xs x r in (p .1, p .0);
-      refused = λ e r. only-at illegal e (read xs) (o xs) r;
-    }
-
 pub exact-targ : (xs : List ℕ) → Exact TargWellFormed targBytes xs (readTarg xs)
 exact-targ = exact-from readTarg targ-written targ-read refused-targ
 
 pub exact-init : (xs : List ℕ) → Exact InitWellFormed initBytes xs (readInit xs)
 exact-init = exact-from readInit init-written init-read refused-init
-
-pub exact-list : (xs : List ℕ) → Exact GoodList mechTypeList xs (readMechTypeList xs)
-exact-list =
-    exact-from readMechTypeList (λ os g. list-written os (g .all) (g .short)) (λ xs os r. let p = list-read xs os r in (p .0, record { all = p .1; short = p .2 })) refused-list
-
--- what follows from exact reading
-pub read-back : {X : Type 0} {Good : X → Type 0} {bytes : X → List ℕ} {read : List ℕ → Result X Fault} → ((xs : List ℕ) → Exact Good bytes xs (read xs)) → ReadBack Good bytes read
-read-back {bytes = bytes} exact x g = exact (bytes x) .accepts x g refl
-
-pub one-writing : {X : Type 0} {Good : X → Type 0} {bytes : X → List ℕ} {read : List ℕ → Result X Fault} → ((xs : List ℕ) → Exact Good bytes xs (read xs)) → OneWriting Good bytes
-one-writing {bytes = bytes} exact x y g h e = same-ok x y (sym (exact (bytes x) .accepts x g refl) ∙ exact (bytes x) .accepts y h e)
-
-pub written-again : {X : Type 0} {Good : X → Type 0} {bytes : X → List ℕ} {read : List ℕ → Result X Fault} → ((xs : List ℕ) → Exact Good bytes xs (read xs)) → WrittenAgain bytes read
-written-again exact xs x r = sym (exact xs .accepted x r .1)
 
 -- the same of an answer that equals the reading
 pub exact-at-targ : (xs : List ℕ) (r : Result Targ Fault) → r ≡ readTarg xs → Exact TargWellFormed targBytes xs r
@@ -110,6 +73,3 @@ exact-at-targ xs r e = subst (Exact TargWellFormed targBytes xs) (sym e) (exact-
 
 pub exact-at-init : (xs : List ℕ) (r : Result Init Fault) → r ≡ readInit xs → Exact InitWellFormed initBytes xs r
 exact-at-init xs r e = subst (Exact InitWellFormed initBytes xs) (sym e) (exact-init xs)
-
-pub exact-at-list : (xs : List ℕ) (r : Result (List (List ℕ)) Fault) → r ≡ readMechTypeList xs → Exact GoodList mechTypeList xs r
-exact-at-list xs r e = subst (Exact GoodList mechTypeList xs) (sym e) (exact-list xs)

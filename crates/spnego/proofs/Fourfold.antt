@@ -16,17 +16,13 @@ use Rattle.std.proofs.shelf.Tests.{eqb-true}
 use Rattle.sspi.specs.declared.fault.Fault.{Fault}
 use Rattle.der.specs.Elements.{tag, element, optional}
 use Rattle.der.specs.Reading.{illegal, andThen, onlyOf, begins}
-use Rattle.der.proofs.Ways.{let-through}
+use Rattle.der.proofs.Ways.{goes-on, let-through}
 use Rattle.der.proofs.Taking.{both, length-element, only-written, only-read, begins-optional}
 use Rattle.spnego.specs.declared.part.Kind.{Kind}
 use Rattle.spnego.specs.declared.part.Kind.the-variants.{OctetString}
 use Rattle.spnego.specs.Tokens.{inside, field, LegalField, Fields, fourFields, sequence, LegalFields}
 use Rattle.spnego.specs.Reading.{fieldOf, fieldsOf, sequenceOf}
 use Rattle.spnego.proofs.Inside.{field-written, field-read}
-
--- an accepted first part of a sequence
-pub goes-on : {X Y : Type 0} {r : Result X Fault} {x : X} (f : X → Result Y Fault) → r ≡ Ok x → andThen r f ≡ f x
-goes-on f e = ap (λ v. andThen v f) e
 
 pub octets-legal : (o : Option (List ℕ)) → LegalField OctetString o
 octets-legal None = tt

@@ -17,11 +17,12 @@ use Rattle.der.specs.Elements.{tag, header, element, optional, oid, bitString, 
 use Rattle.der.specs.Reading.{illegal, andThen, onlyOf, oneElement, begins, optionalOf}
 use Rattle.der.proofs.Ways.{err-ok, let-through}
 use Rattle.der.proofs.Taking.{both, length-element, only-written, only-read, element-one, one-element, optional-written, optional-read}
+use Rattle.mech_types.specs.Reading.{readMechTypeList}
 use Rattle.spnego.specs.declared.part.Kind.{Kind}
 use Rattle.spnego.specs.declared.part.Kind.the-variants.{Element, MechTypes, Oid, BitString, OctetString}
 use Rattle.spnego.specs.Tokens.{Legal, inside, field, LegalField}
-use Rattle.spnego.specs.Reading.{readMechTypeList, legalTest, partOf, innerOf, Field, withinOf, fieldOf}
-use Rattle.spnego.proofs.Listing.{list-written, list-read}
+use Rattle.spnego.specs.Reading.{legalTest, partOf, innerOf, Field, withinOf, fieldOf}
+use Rattle.mech_types.proofs.Listing.{list-written, list-read}
 
 ok-value : {X : Type 0} (r : Result X Fault) → isOk r ≡ true → (x : X) × (r ≡ Ok x)
 ok-value (Ok x) h = (x, refl)

@@ -1,8 +1,6 @@
-pub mod Listing
 pub mod Inside
 pub mod Fourfold
 pub mod Whole
 pub mod Putting
 pub mod Exactly
 pub mod Portions
-pub mod Rows

@@ -14,7 +14,7 @@ use Rattle.spnego.specs.declared.part.Kind.{Kind}
 use Rattle.spnego.specs.declared.part.Kind.the-variants.{Element, MechTypes, Oid, BitString, OctetString}
 use Rattle.spnego.specs.Tokens.{inside, field, Fields, fourFields, sequence, Targ, targFields, targBytes, Init, initFields, initContent, initBytes}
 use Rattle.spnego.specs.Reading.{readTarg, readInit}
-use Rattle.spnego.specs.Laws.{Within, Part, Parts}
+use Rattle.spnego.specs.Places.{Within, Part, Parts}
 use Rattle.spnego.proofs.Whole.{targ-read, init-read}
 
 whole : (p : List ℕ) → Within p p

@@ -18,7 +18,8 @@ use Rattle.sspi.specs.declared.fault.Fault.{Fault}
 use Rattle.der.specs.Elements.{header, element, optional, oid}
 use Rattle.der.specs.Reading.{andThen}
 use Rattle.der.specs.Writing.{over, endIf, putIf, elementLen, invalid, tooSmall, Puts}
-use Rattle.der.proofs.Ways.{err-ok, let-through, Only, only-at, only-then, only-cond}
+use Rattle.der.proofs.Promised.{only-element-len}
+use Rattle.der.proofs.Ways.{goes-on, err-ok, let-through, Only, only-at, only-then, only-cond}
 use Rattle.der.proofs.Taking.{both, length-element}
 use Rattle.der.proofs.Overs.{element-size, element-len, header-bound, puts-if, puts-header, puts-none}
 use Rattle.spnego.specs.declared.part.Kind.{Kind}
@@ -26,8 +27,8 @@ use Rattle.spnego.specs.declared.part.Kind.the-variants.{Element, MechTypes, O
 use Rattle.spnego.specs.Tokens.{inside, field, LegalField, Fields, fourFields, sequence, LegalFields, Targ, targFields, targBytes, TargWellFormed, Init, initFields, initContent, initBytes, InitWellFormed}
 use Rattle.spnego.specs.Reading.{seen, legalTest}
 use Rattle.spnego.proofs.Inside.{legal-passes, passes-legal}
-use Rattle.spnego.proofs.Fourfold.{goes-on, octets-legal}
-use Rattle.spnego.specs.Writing.{insideLen, fieldLen, fieldsLen, sequenceLen, Lens, targLens, initLens, Writes}
+use Rattle.spnego.proofs.Fourfold.{octets-legal}
+use Rattle.spnego.specs.Writing.{insideLen, fieldLen, fieldsLen, sequenceLen, Lens, targLens, initLens}
 
 -- a part that stands inside an element of its own
 pub puts-wrapped : (k : Kind) (t at : ℕ) (r : Result ℕ Fault) (out part after : List ℕ) → inside k part ≡ element t part → length (inside k part) < 65536
@@ -146,9 +147,6 @@ pub field-bound : (k : Kind) (n : ℕ) (o : Option (List ℕ)) → Ok n ≡ fiel
 field-bound k n o r = field-size 0 k n o (sym r) .2
 
 -- every refusal of a length is the same
-pub only-element-len : (n : ℕ) → Only invalid (elementLen n)
-only-element-len n = only-cond invalid (ltb n 65536) _ _ tt refl
-
 only-inside-len : (k : Kind) (n : ℕ) → Only invalid (insideLen k n)
 only-inside-len Element n = tt
 only-inside-len MechTypes n = tt
@@ -169,23 +167,6 @@ only-sequence-len k l f =
     only-then invalid (fieldLen OctetString (f .third)) _ (only-field-len OctetString (f .third)) (λ c.
     only-then invalid (fieldLen OctetString (f .fourth)) _ (only-field-len OctetString (f .fourth)) (λ d. tt)))))
     (λ body. only-then invalid (elementLen body) _ (only-element-len body) (λ n. tt))
-
--- a writer's answer in each of the three cases
-pub writes-unfit : {Good : Type 0} (bytes out : List ℕ) (e : Fault) → (Good → ⊥) → e ≡ invalid → Writes Good bytes out out (Err e)
-writes-unfit bytes out e bad p = record { unfit = λ _. (ap Err p, refl); short = λ g _. absurd (bad g); written = λ g _. absurd (bad g) }
-
-pub writes-short : {Good : Type 0} (bytes out : List ℕ) → Good → length out < length bytes → Writes Good bytes out out (Err tooSmall)
-writes-short bytes out g l = record { unfit = λ bad. absurd (bad g); short = λ _ _. (refl, refl); written = λ _ k. absurd (omega arith) }
-
-pub writes-made : {Good : Type 0} (bytes out after : List ℕ) (r : Result ℕ Fault) → Good → length bytes ≤ length out → Puts r out 0 bytes after → Writes Good bytes out after r
-unfolding over
-writes-made bytes out after r g l p =
-    let w = p (omega arith) in
-    record {
-      unfit = λ bad. absurd (bad g);
-      short = λ _ k. absurd (omega arith);
-      written = λ _ _. (w .0 ∙ ap Ok (zero-add (length bytes)), w .1 ∙ ap (λ n. bytes ++ drop n out) (zero-add (length bytes)));
-    }
 
 -- NegTokenTarg
 pub record TargSizes (t : Targ) (n : Lens) : Type 0 where

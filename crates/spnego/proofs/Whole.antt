@@ -9,11 +9,13 @@ use Rattle.std.specs.declared.result.Result.the-variants.{Ok, Err}
 use Rattle.der.specs.Elements.{element}
 use Rattle.der.specs.Reading.{onlyOf}
 use Rattle.der.proofs.Taking.{both, length-element, only-written, only-read}
+use Rattle.der.proofs.Ways.{goes-on}
+use Rattle.mech_types.specs.Reading.{nextOf}
+use Rattle.mech_types.proofs.Listing.{next-written, next-read}
 use Rattle.spnego.specs.declared.part.Kind.the-variants.{Element, MechTypes, Oid, BitString}
 use Rattle.spnego.specs.Tokens.{Fields, sequence, Targ, targFields, targBytes, TargWellFormed, Init, initFields, initContent, initBytes, InitWellFormed}
-use Rattle.spnego.specs.Reading.{nextOf, sequenceOf, targOf, readTarg, initOf, readInit}
-use Rattle.spnego.proofs.Listing.{next-written, next-read}
-use Rattle.spnego.proofs.Fourfold.{goes-on, sequence-written, sequence-read}
+use Rattle.spnego.specs.Reading.{sequenceOf, targOf, readTarg, initOf, readInit}
+use Rattle.spnego.proofs.Fourfold.{sequence-written, sequence-read}
 
 pub targ-written : (t : Targ) → TargWellFormed t → readTarg (targBytes t) ≡ Ok t
 unfolding readTarg targBytes

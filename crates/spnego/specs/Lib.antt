@@ -2,4 +2,4 @@ pub mod Tokens
 pub mod Reading
 pub mod Writing
 pub mod Views
-pub mod Laws
+pub mod Places

@@ -1,12 +1,13 @@
 -- How a reader goes through a token. That these functions undo the writing of `Tokens`, and accept nothing else, is proved.
-use Prim.Native.Nat.{ℕ, zero, suc}
-use mathlib.Core.Bool.{Bool, true, cond, _&&_}
-use mathlib.Core.List.{List, [], _∷_}
+use Prim.Native.Nat.{ℕ}
+use mathlib.Core.Bool.{Bool, true, cond}
+use mathlib.Core.List.{List}
 use lib.Dec.{eqb}
 use lib.ListN.{length}
 use denote.Ref.{RefT}
 use Rattle.der.specs.Elements.{oid, bitString}
-use Rattle.der.specs.Reading.{illegal, andThen, takeOf, onlyOf, oneElement, optionalOf}
+use Rattle.der.specs.Reading.{illegal, andThen, onlyOf, oneElement, optionalOf}
+use Rattle.mech_types.specs.Reading.{nextOf, readMechTypeList}
 use Rattle.spnego.specs.declared.part.Kind.{Kind}
 use Rattle.spnego.specs.declared.part.Kind.the-variants.{Element, MechTypes, Oid, BitString, OctetString}
 use Rattle.spnego.specs.Tokens.{Fields, Targ, Init}
@@ -17,26 +18,6 @@ use Rattle.std.specs.declared.option.Option.{Option}
 use Rattle.std.specs.declared.option.Option.the-variants.{Some, None}
 use Rattle.std.specs.declared.result.Result.{Result}
 use Rattle.std.specs.declared.result.Result.the-variants.{Ok, Err}
-
--- the first object identifier, and what follows it
-abbrev pub nextOf : List ℕ → Result (List ℕ × List ℕ) Fault
-nextOf xs = andThen (takeOf xs) (λ x. cond (eqb (x .0) 0x06 && oid (x .1)) (Ok (x .1, x .2)) (Err illegal))
-
--- an object identifier before those that were read
-abbrev pub before : List ℕ → Result (List (List ℕ)) Fault → Result (List (List ℕ)) Fault
-before o r = andThen r (λ os. Ok (o ∷ os))
-
--- the object identifiers that fill the input, at most n
-unfoldable pub oidsUpTo : ℕ → List ℕ → Result (List (List ℕ)) Fault
-oidsUpTo zero xs = cond (eqb (length xs) 0) (Ok []) (Err illegal)
-oidsUpTo (suc n) xs = cond (eqb (length xs) 0) (Ok []) (andThen (nextOf xs) (λ x. before (x .0) (oidsUpTo n (x .1))))
-
--- those that fill the input: each takes at least a byte
-unfoldable pub oidsOf : List ℕ → Result (List (List ℕ)) Fault
-oidsOf xs = oidsUpTo (length xs) xs
-
-unfoldable pub readMechTypeList : List ℕ → Result (List (List ℕ)) Fault
-readMechTypeList xs = andThen (onlyOf 0x30 xs) oidsOf
 
 abbrev pub legalTest : Kind → List ℕ → Bool
 legalTest Element part = oneElement part
@@ -93,8 +74,3 @@ readInit xs =
 
 abbrev pub seen : Option (RefT (List ℕ)) → Option (List ℕ)
 seen o = mapped (λ y. y .now) o
-
--- what a result of the code says, its references read
-abbrev pub plainNext : Result (RefT (List ℕ) × RefT (List ℕ)) Fault → Result (List ℕ × List ℕ) Fault
-plainNext (Ok x) = Ok (x .0 .now, x .1 .now)
-plainNext (Err e) = Err e

@@ -1,29 +1,17 @@
--- The two negotiation tokens of RFC 4178 and the list of mechanisms, as byte strings made of elements. This file says how fields are
+-- The two negotiation tokens of RFC 4178, as byte strings made of elements. This file says how fields are
 -- written and which fields make a legal token; it knows nothing of a reader.
 use Prim.Native.Nat.{ℕ, _<_}
-use mathlib.Core.Bool.{Bool, true, _&&_}
-use mathlib.Core.List.{List, [], _∷_, _++_}
+use mathlib.Core.Bool.{true}
+use mathlib.Core.List.{List, _++_}
 use mathlib.Core.Path.{_≡_}
 use lib.ListN.{length}
 use Rattle.der.specs.Elements.{tag, element, optional, oid, bitString}
+use Rattle.mech_types.specs.Lists.{oids, mechTypeList, allOids}
 use Rattle.spnego.specs.declared.part.Kind.{Kind}
 use Rattle.spnego.specs.declared.part.Kind.the-variants.{Element, MechTypes, Oid, BitString, OctetString}
 use Rattle.std.specs.Options.{mapped}
 use Rattle.std.specs.declared.option.Option.{Option}
 use Rattle.std.specs.declared.option.Option.the-variants.{Some, None}
-use Rattle.std.specs.shelf.Lists.{joined}
-
--- object identifiers, each as an element, one behind the other
-unfoldable pub oids : List (List ℕ) → List ℕ
-oids os = joined (element 0x06) os
-
--- a list of mechanisms
-unfoldable pub mechTypeList : List (List ℕ) → List ℕ
-mechTypeList os = element 0x30 (oids os)
-
-unfoldable pub allOids : List (List ℕ) → Bool
-allOids [] = true
-allOids (o ∷ os) = oid o && allOids os
 
 -- which parts a field of each kind may hold
 abbrev pub Legal : Kind → List ℕ → Type 0

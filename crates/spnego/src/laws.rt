@@ -1,6 +1,8 @@
-ghost use Rattle.spnego.specs.Laws.{GoodList, ReadBack, OneWriting, WrittenAgain};
-ghost use Rattle.spnego.specs.Reading.{readTarg, readInit, readMechTypeList};
-ghost use Rattle.spnego.specs.Tokens.{targBytes, TargWellFormed, initBytes, InitWellFormed, mechTypeList};
+ghost use Rattle.der.specs.Promises.{ReadBack, OneWriting, WrittenAgain};
+ghost use Rattle.mech_types.specs.Lists.{mechTypeList, GoodList};
+ghost use Rattle.mech_types.specs.Reading.{readMechTypeList};
+ghost use Rattle.spnego.specs.Reading.{readTarg, readInit};
+ghost use Rattle.spnego.specs.Tokens.{targBytes, TargWellFormed, initBytes, InitWellFormed};
 
 // Reading what was written gives the same fields, for both tokens and the list of mechanisms.
 pub fn fields_written_are_read_back()

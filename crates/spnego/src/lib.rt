@@ -1,12 +1,10 @@
 mod fields;
 mod laws;
-mod mech_type_list;
 mod neg_token_init;
 mod neg_token_targ;
 mod part;
 
 pub use laws::a_legal_token_has_no_other_writing;
 pub use laws::fields_written_are_read_back;
-pub use mech_type_list::MechTypeList;
 pub use neg_token_init::NegTokenInit;
 pub use neg_token_targ::NegTokenTarg;

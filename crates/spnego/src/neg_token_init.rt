@@ -1,10 +1,11 @@
 ghost use mathlib.Core.Path.{_≡_};
+ghost use Rattle.der.specs.Promises.{Exact, Writes};
 ghost use Rattle.der.specs.Writing.{Puts};
-ghost use Rattle.spnego.specs.Laws.{Exact, Within, Parts};
+ghost use Rattle.spnego.specs.Places.{Within, Parts};
 ghost use Rattle.spnego.specs.Reading.{readInit};
 ghost use Rattle.spnego.specs.Tokens.{initFields, initBytes, InitWellFormed};
 ghost use Rattle.spnego.specs.Views.{plainFields, plainInit, plainLens, initRead, lensRead};
-ghost use Rattle.spnego.specs.Writing.{initLens, Writes};
+ghost use Rattle.spnego.specs.Writing.{initLens};
 ghost use Rattle.std.specs.Vec.{made};
 ghost use Rattle.std.specs.declared.result.Result.the-variants.{Ok};
 use crate::fields::Lengths;
@@ -12,7 +13,6 @@ use crate::fields::TokenFields;
 use crate::fields::put_sequence;
 use crate::fields::sequence;
 use crate::fields::sequence_len;
-use crate::mech_type_list::next_oid;
 use crate::part::Kind;
 use der::INVALID;
 use der::TOO_SMALL;
@@ -21,6 +21,7 @@ use der::is_oid;
 use der::only;
 use der::put_element;
 use der::put_header;
+use mech_types::next_oid;
 use sspi::Fault;
 
 // The initiator's first token: each field but the first is absent or a part of the input.

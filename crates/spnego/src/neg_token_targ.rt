@@ -1,10 +1,11 @@
 ghost use mathlib.Core.Path.{_≡_};
+ghost use Rattle.der.specs.Promises.{Exact, Writes};
 ghost use Rattle.der.specs.Writing.{Puts};
-ghost use Rattle.spnego.specs.Laws.{Exact, Parts};
+ghost use Rattle.spnego.specs.Places.{Parts};
 ghost use Rattle.spnego.specs.Reading.{readTarg};
 ghost use Rattle.spnego.specs.Tokens.{targFields, targBytes, TargWellFormed};
 ghost use Rattle.spnego.specs.Views.{plainFields, plainTarg, plainLens, targRead, lensRead};
-ghost use Rattle.spnego.specs.Writing.{targLens, Writes};
+ghost use Rattle.spnego.specs.Writing.{targLens};
 ghost use Rattle.std.specs.Vec.{made};
 ghost use Rattle.std.specs.declared.result.Result.the-variants.{Ok};
 use crate::fields::Lengths;

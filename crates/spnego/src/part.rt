@@ -7,7 +7,6 @@ ghost use Rattle.der.specs.Writing.{Puts};
 ghost use Rattle.spnego.specs.Reading.{legalTest, partOf, innerOf, fieldOf, seen};
 ghost use Rattle.spnego.specs.Tokens.{field as fieldBytes, inside};
 ghost use Rattle.spnego.specs.Writing.{insideLen, fieldLen};
-use crate::mech_type_list::MechTypeList;
 use der::ILLEGAL;
 use der::INVALID;
 use der::element_len;
@@ -19,6 +18,7 @@ use der::optional;
 use der::put_bytes;
 use der::put_element;
 use der::put_header;
+use mech_types::MechTypeList;
 use sspi::Fault;
 
 // What a field of a token holds.

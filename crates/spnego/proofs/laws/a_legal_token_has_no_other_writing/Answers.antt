@@ -1,4 +1,6 @@
-use Rattle.spnego.proofs.Exactly.{exact-targ, exact-init, exact-list, one-writing, written-again}
+use Rattle.der.proofs.Promised.{one-writing, written-again}
+use Rattle.mech_types.proofs.Listing.{exact-list}
+use Rattle.spnego.proofs.Exactly.{exact-targ, exact-init}
 use Rattle.spnego.proofs.laws.a_legal_token_has_no_other_writing.Needs as need
 
 pub returns : need.returns

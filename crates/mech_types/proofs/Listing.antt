@@ -14,11 +14,13 @@ use Rattle.std.proofs.shelf.Lists.{append-assoc, nil-from-length}
 use Rattle.std.proofs.shelf.Tests.{eq-eqb, ne-eqb, eqb-true, eqb-false, and-parts, and-from, cond-true, cond-false, cases-eq}
 use Rattle.sspi.specs.declared.fault.Fault.{Fault}
 use Rattle.der.specs.Elements.{tag, header, element, oid}
+use Rattle.der.specs.Promises.{Exact}
 use Rattle.der.specs.Reading.{illegal, andThen, Taken, takeOf, onlyOf}
-use Rattle.der.proofs.Ways.{err-ok, ways, let-through}
-use Rattle.der.proofs.Taking.{both, length-element, take-written, take-read, only-written, only-read}
-use Rattle.spnego.specs.Tokens.{oids, mechTypeList, allOids}
-use Rattle.spnego.specs.Reading.{nextOf, before, oidsUpTo, oidsOf, readMechTypeList}
+use Rattle.der.proofs.Promised.{exact-from}
+use Rattle.der.proofs.Ways.{err-ok, ways, let-through, Only, only-then, only-cond}
+use Rattle.der.proofs.Taking.{both, length-element, take-written, take-read, only-written, only-read, refused-take, refused-only}
+use Rattle.mech_types.specs.Lists.{oids, mechTypeList, allOids, GoodList}
+use Rattle.mech_types.specs.Reading.{nextOf, before, oidsUpTo, oidsOf, readMechTypeList}
 
 abbrev Next : Type 0
 Next = List ℕ × List ℕ
@@ -161,3 +163,25 @@ verdict-refused xs e l r = ap verdict (oids-refused xs e (eqb-false (length xs) 
 
 pub verdict-all : (xs : List ℕ) → true ≡ eqb (length xs) 0 → verdict (oidsOf xs) ≡ Ok 0
 verdict-all xs l = ap verdict (oids-none xs (eqb-true (length xs) 0 (sym l)))
+
+-- whatever is refused is refused as an illegal token
+pub refused-next : (xs : List ℕ) → Only illegal (nextOf xs)
+refused-next xs = only-then illegal (takeOf xs) _ (refused-take xs) (λ x. only-cond illegal (eqb (x .0) 0x06 && oid (x .1)) _ _ tt refl)
+
+refused-up-to : (n : ℕ) (xs : List ℕ) → Only illegal (oidsUpTo n xs)
+unfolding oidsUpTo
+refused-up-to zero xs = only-cond illegal (eqb (length xs) 0) _ _ tt refl
+refused-up-to (suc n) xs =
+    only-cond illegal (eqb (length xs) 0) _ _ tt
+    (only-then illegal (nextOf xs) _ (refused-next xs) (λ x. only-then illegal (oidsUpTo n (x .1)) _ (refused-up-to n (x .1)) (λ os. tt)))
+
+refused-list : (xs : List ℕ) → Only illegal (readMechTypeList xs)
+unfolding readMechTypeList oidsOf
+refused-list xs = only-then illegal (onlyOf 0x30 xs) oidsOf (refused-only 0x30 xs) (λ c. refused-up-to (length c) c)
+
+pub exact-list : (xs : List ℕ) → Exact GoodList mechTypeList xs (readMechTypeList xs)
+exact-list =
+    exact-from readMechTypeList (λ os g. list-written os (g .all) (g .short)) (λ xs os r. let p = list-read xs os r in (p .0, record { all = p .1; short = p .2 })) refused-list
+
+pub exact-at-list : (xs : List ℕ) (r : Result (List (List ℕ)) Fault) → r ≡ readMechTypeList xs → Exact GoodList mechTypeList xs r
+exact-at-list xs r e = subst (Exact GoodList mechTypeList xs) (sym e) (exact-list xs)

@@ -1,7 +1,7 @@
 use mathlib.Core.Path.{ap, sym, _∙_}
 use Rattle.std.specs.Results.{okPart}
-use Rattle.spnego.proofs.Listing.{oids-more, oids-end}
-use Rattle.spnego.proofs.mech_type_list.MechTypeList.split_first.Needs as need
+use Rattle.mech_types.proofs.Listing.{oids-more, oids-end}
+use Rattle.mech_types.proofs.MechTypeList.split_first.Needs as need
 
 pub returns-in-Ok : need.returns-in-Ok
 returns-in-Ok c =

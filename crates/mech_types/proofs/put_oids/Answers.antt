@@ -1,5 +1,5 @@
-use Rattle.spnego.proofs.Rows.{row-puts, row-again, row-refused, row-all, row-none}
-use Rattle.spnego.proofs.mech_type_list.put_oids.Needs as need
+use Rattle.mech_types.proofs.Rows.{row-puts, row-again, row-refused, row-all, row-none}
+use Rattle.mech_types.proofs.put_oids.Needs as need
 
 pub loop-oid-holds : need.loop-oid-holds
 loop-oid-holds c = row-none (c .args .out .now) (c .args .start)

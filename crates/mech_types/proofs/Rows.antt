@@ -16,15 +16,13 @@ use Rattle.sspi.specs.declared.fault.Fault.{Fault}
 use Rattle.der.specs.Elements.{element, oid}
 use Rattle.der.specs.Reading.{andThen}
 use Rattle.der.specs.Writing.{endIf, putIf, elementLen, invalid, Puts}
-use Rattle.der.proofs.Ways.{err-ok, passed, let-through, Only, only-at, only-then, only-cond}
+use Rattle.der.proofs.Promised.{only-element-len}
+use Rattle.der.proofs.Ways.{goes-on, err-ok, passed, let-through, Only, only-at, only-then, only-cond}
 use Rattle.der.proofs.Taking.{both, length-element}
 use Rattle.der.proofs.Overs.{element-size, element-len, puts-if, puts-none, puts-puts, puts-refused}
-use Rattle.spnego.specs.Tokens.{oids, mechTypeList, allOids}
-use Rattle.spnego.specs.Laws.{GoodList}
-use Rattle.spnego.specs.Views.{plainOids}
-use Rattle.spnego.specs.Writing.{addOid, oidsLenFrom}
-use Rattle.spnego.proofs.Fourfold.{goes-on}
-use Rattle.spnego.proofs.Putting.{only-element-len}
+use Rattle.mech_types.specs.Lists.{oids, mechTypeList, allOids, GoodList}
+use Rattle.mech_types.specs.Views.{plainOids}
+use Rattle.mech_types.specs.Writing.{addOid, oidsLenFrom}
 
 abbrev Refs : Type 0
 Refs = List (RefT (List ℕ))

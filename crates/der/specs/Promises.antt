@@ -1,14 +1,11 @@
--- What is promised of reading and writing, in terms of the grammar alone.
-use Prim.Native.Nat.{ℕ, _<_}
-use mathlib.Core.Bool.{true}
+-- What a reader and a writer owe, for any kind of fields: `Good` says which are well-formed, and `bytes` how they are written.
+use Prim.Native.Nat.{ℕ, _<_, _≤_}
 use mathlib.Core.List.{List, _++_}
 use mathlib.Core.Path.{_≡_}
-use lib.ListN.{length}
+use lib.ListN.{length, drop}
 use Rattle.der.specs.Reading.{illegal}
-use Rattle.spnego.specs.Tokens.{oids, mechTypeList, allOids, Fields, Targ, targBytes, TargWellFormed, Init, initBytes, InitWellFormed}
+use Rattle.der.specs.Writing.{invalid, tooSmall}
 use Rattle.sspi.specs.declared.fault.Fault.{Fault}
-use Rattle.std.specs.declared.option.Option.{Option}
-use Rattle.std.specs.declared.option.Option.the-variants.{Some}
 use Rattle.std.specs.declared.result.Result.{Result}
 use Rattle.std.specs.declared.result.Result.the-variants.{Ok, Err}
 
@@ -19,24 +16,12 @@ pub record Exact {X : Type 0} (Good : X → Type 0) (bytes : X → List ℕ) (in
   pub accepted : (x : X) → answer ≡ Ok x → Good x × (input ≡ bytes x)
   pub refused : (e : Fault) → answer ≡ Err e → e ≡ illegal
 
--- the part stands in the input, one byte behind the other
-abbrev pub Within : List ℕ → List ℕ → Type 0
-Within part input = (before : List ℕ) × (after : List ℕ) × (input ≡ before ++ (part ++ after))
-
-abbrev pub Part : List ℕ → Option (List ℕ) → Type 0
-Part input o = (part : List ℕ) → o ≡ Some part → Within part input
-
--- each field that is there is a part of the input
-pub record Parts (input : List ℕ) (f : Fields) : Type 0 where
-  pub first : Part input (f .first)
-  pub second : Part input (f .second)
-  pub third : Part input (f .third)
-  pub fourth : Part input (f .fourth)
-
--- the object identifiers of a list that can be written
-pub record GoodList (os : List (List ℕ)) : Type 0 where
-  pub all : allOids os ≡ true
-  pub short : length (oids os) < 65536
+-- The answer of a writer, and what the buffer holds after it: fields that are not well-formed (`Good` says when they are) and a
+-- writing longer than the buffer are refused and leave the buffer as it was; any other writing goes to the front and keeps the rest.
+pub record Writes (Good : Type 0) (bytes out after : List ℕ) (r : Result ℕ Fault) : Type 0 where
+  pub unfit : (Good → ⊥) → (r ≡ Err invalid) × (after ≡ out)
+  pub short : Good → length out < length bytes → (r ≡ Err tooSmall) × (after ≡ out)
+  pub written : Good → length bytes ≤ length out → (r ≡ Ok (length bytes)) × (after ≡ bytes ++ drop (length bytes) out)
 
 -- two well-formed field sets with the same writing are equal
 abbrev pub OneWriting : {X : Type 0} → (X → Type 0) → (X → List ℕ) → Type 0

@@ -1,8 +1,8 @@
 use lib.ListN.{take}
 use Rattle.der.specs.Writing.{Puts}
-use Rattle.spnego.specs.Tokens.{oids}
-use Rattle.spnego.specs.Views.{plainOids}
-use Rattle.spnego.proofs.mech_type_list.put_oids.Given as given
+use Rattle.mech_types.specs.Lists.{oids}
+use Rattle.mech_types.specs.Views.{plainOids}
+use Rattle.mech_types.proofs.put_oids.Given as given
 use Rattle.std.specs.declared.result.Result.the-variants.{Ok}
 
 abbrev pub Inv-loop-oid : given.InvT-loop-oid

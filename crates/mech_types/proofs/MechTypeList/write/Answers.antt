@@ -3,11 +3,11 @@ use mathlib.Core.Path.{sym, _∙_}
 use Rattle.std.proofs.shelf.Results.{err-from-errBy}
 use Rattle.der.proofs.Ways.{err-ok, same-ok}
 use Rattle.der.proofs.Overs.{puts-header, puts-element, refused-element}
-use Rattle.spnego.specs.Tokens.{oids, mechTypeList}
-use Rattle.spnego.specs.Views.{plainOids}
-use Rattle.spnego.proofs.Putting.{writes-unfit, writes-short, writes-made}
-use Rattle.spnego.proofs.Rows.{list-sizes, list-refused}
-use Rattle.spnego.proofs.mech_type_list.MechTypeList.write.Needs as need
+use Rattle.mech_types.specs.Lists.{oids, mechTypeList}
+use Rattle.mech_types.specs.Views.{plainOids}
+use Rattle.der.proofs.Promised.{writes-unfit, writes-short, writes-made}
+use Rattle.mech_types.proofs.Rows.{list-sizes, list-refused}
+use Rattle.mech_types.proofs.MechTypeList.write.Needs as need
 
 pub returns-in-Break-body : need.returns-in-Break-body
 returns-in-Break-body c =

@@ -1,5 +1,5 @@
-use Rattle.spnego.proofs.Exactly.{exact-at-list}
-use Rattle.spnego.proofs.mech_type_list.MechTypeList.read.Needs as need
+use Rattle.mech_types.proofs.Listing.{exact-at-list}
+use Rattle.mech_types.proofs.MechTypeList.read.Needs as need
 
 pub returns : need.returns
 returns c =

@@ -1,8 +1,8 @@
 use mathlib.Core.Path.{_≡_}
 use lib.ListN.{length}
-use Rattle.spnego.specs.Reading.{oidsOf}
-use Rattle.spnego.proofs.Listing.{verdict}
-use Rattle.spnego.proofs.mech_type_list.MechTypeList.parse.Given as given
+use Rattle.mech_types.specs.Reading.{oidsOf}
+use Rattle.mech_types.proofs.Listing.{verdict}
+use Rattle.mech_types.proofs.MechTypeList.parse.Given as given
 
 abbrev pub Inv-loop-rest : given.InvT-loop-rest
 Inv-loop-rest l = verdict (oidsOf (l .rest)) ≡ verdict (oidsOf (l .oids))

@@ -5,9 +5,9 @@ use Rattle.std.proofs.shelf.Results.{err-from-errBy}
 use Rattle.std.proofs.shelf.Tests.{eqb-true}
 use Rattle.std.specs.Results.{isOk}
 use Rattle.der.specs.Reading.{andThen}
-use Rattle.spnego.specs.Reading.{oidsOf, readMechTypeList}
-use Rattle.spnego.proofs.Listing.{verdict, verdict-more, verdict-refused, verdict-all, err-from-verdict, ok-from-verdict, next-shorter}
-use Rattle.spnego.proofs.mech_type_list.MechTypeList.parse.Needs as need
+use Rattle.mech_types.specs.Reading.{oidsOf, readMechTypeList}
+use Rattle.mech_types.proofs.Listing.{verdict, verdict-more, verdict-refused, verdict-all, err-from-verdict, ok-from-verdict, next-shorter}
+use Rattle.mech_types.proofs.MechTypeList.parse.Needs as need
 
 pub returns-in-Break-oids : need.returns-in-Break-oids
 unfolding readMechTypeList

@@ -1,7 +1,7 @@
 use mathlib.Core.Path.{sym, _∙_}
 use Rattle.std.proofs.shelf.Results.{err-from-errBy}
-use Rattle.spnego.proofs.Rows.{len-refused, len-more, len-all, add-bound}
-use Rattle.spnego.proofs.mech_type_list.oids_len.Needs as need
+use Rattle.mech_types.proofs.Rows.{len-refused, len-more, len-all, add-bound}
+use Rattle.mech_types.proofs.oids_len.Needs as need
 
 pub returns-in-Break-total : need.returns-in-Break-total
 returns-in-Break-total c =
