@@ -1,10 +1,6 @@
-mod explain;
-mod hex;
 mod show;
-#[cfg(test)]
-mod tests;
 
-use hex::Line;
+use diagnosis::Line;
 use show::show;
 use std::error::AnyError;
 use std::io::BufRead;

@@ -1,8 +1,8 @@
-use crate::explain::TroubleDisplay;
-use crate::explain::explain;
-use crate::hex::Hex;
-use crate::hex::HexDisplay;
 use der::INVALID;
+use diagnosis::Hex;
+use diagnosis::HexDisplay;
+use diagnosis::TroubleDisplay;
+use diagnosis::explain;
 use mech_types::MechTypeList;
 use names::Mech;
 use names::NegState;

@@ -1,7 +1,7 @@
 ghost use mathlib.Core.Path.{_≡_};
 ghost use Prim.Native.Nat.{_<_};
 ghost use Rattle.std.specs.Options.{Cases};
-ghost use Rattle.token.specs.Hex.{digitOf, pairOf};
+ghost use Rattle.diagnosis.specs.Hex.{digitOf, pairOf};
 use std::alloc::AllocError;
 use std::alloc::Global;
 use std::fmt;
