@@ -103,7 +103,7 @@ unfolding Row
 rule-row [] o = absurd (omega arith)
 rule-row (b ∷ bs) o = (o .some, (omega (arith, before (b ∷ bs) (length bs), o .ends), row-begin (b ∷ bs) o))
 
-decides-oid : (xs : List ℕ) → Decides (oid xs) (ObjectIdentifier xs)
+pub decides-oid : (xs : List ℕ) → Decides (oid xs) (ObjectIdentifier xs)
 unfolding oid
 decides-oid xs = decides-like _ (oid-rule xs) (rule-row xs) (decides-and (ltb 0 (length xs)) (arcs true xs) (decides-ltb 0 (length xs)) (arcs-row 0 xs))
 
@@ -117,7 +117,7 @@ bits-rule xs f = record { some = f .0; unused = f .1 .0; none = λ e. ⊎-elim (
 rule-bits : (xs : List ℕ) → BitString xs → (0 < length xs) × ((getD xs 0 0 ≤ 7) × ((1 < length xs) ⊎ (getD xs 0 0 ≡ 0)))
 rule-bits xs b = (b .some, (b .unused, ⊎-elim inl (λ l. inr (b .none (omega (arith, b .some)))) (cases-lt 1 (length xs))))
 
-decides-bits : (xs : List ℕ) → Decides (bitString xs) (BitString xs)
+pub decides-bits : (xs : List ℕ) → Decides (bitString xs) (BitString xs)
 unfolding bitString
 decides-bits xs =
     let small : Decides (leb (getD xs 0 0) 7) (getD xs 0 0 ≤ 7) = (leb-true _ _, le-leb _ _) in

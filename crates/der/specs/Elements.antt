@@ -53,8 +53,7 @@ pub record BitString (content : List ℕ) : Type 0 where
   pub unused : getD content 0 0 ≤ 7
   pub none : length content ≡ 1 → getD content 0 0 ≡ 0
 
--- how a reader decides the two rules. The content of an object identifier is a row of arcs: every byte of an arc but its last is 0x80 or more, and its first is not 0x80.
--- `begins` says whether the next byte begins an arc
+-- how the two rules are decided. A row of arcs, byte by byte: `begins` says whether the next byte begins an arc
 abbrev pub arcs : Bool → List ℕ → Bool
 arcs begins [] = begins
 arcs begins (b ∷ bs) = not (begins && eqb b 0x80) && arcs (ltb b 0x80) bs

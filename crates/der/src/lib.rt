@@ -102,7 +102,7 @@ pub fn is_oid(content: &[u8]) -> bool
         }
         begins = *b < 0x80;
     }
-    begins
+    begins // the last byte ended an arc
 }
 
 // Whether this is the content of a bit string.
