@@ -1,7 +1,5 @@
 // What the program prints beside the fields: where a refused token went wrong, and bytes in hexadecimal. The explanations are tested, not proved.
 mod digits;
-#[cfg(test)]
-mod tests;
 mod walk;
 
 pub use digits::Hex;

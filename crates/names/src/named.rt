@@ -4,7 +4,7 @@ ghost use Prim.Native.Nat.{ℕ};
 ghost use Rattle.names.specs.Names.{firstNamed};
 
 // A type whose values have fixed byte strings, each as `spelling` says.
-pub trait Named {
+pub(crate) trait Named {
     ghost spelling: { Self → List ℕ };
 
     // The byte string of the value.
@@ -13,7 +13,7 @@ pub trait Named {
 }
 
 // The first of the list that has the byte string.
-pub fn first_named<T: Named + Copy>(xs: &[T], bytes: &[u8]) -> Option<T>
+pub(crate) fn first_named<T: Named + Copy>(xs: &[T], bytes: &[u8]) -> Option<T>
     ensures { λ r. ⌜ r ≡ firstNamed (T·Named .spelling) (now (xs .entry)) (now (bytes .entry)) ⌝ }
 {
     for x in xs {

@@ -18,7 +18,7 @@ use sspi::Fault;
 
 // The four optional fields that end both tokens.
 #[derive(Clone, Copy)]
-pub struct TokenFields<'a> {
+pub(crate) struct TokenFields<'a> {
     pub first: Option<&'a [u8]>,
     pub second: Option<&'a [u8]>,
     pub third: Option<&'a [u8]>,
@@ -27,7 +27,7 @@ pub struct TokenFields<'a> {
 
 // The lengths of a token and of what it holds: the four fields, the sequence around them, the content, the whole.
 #[derive(Clone, Copy)]
-pub struct Lengths {
+pub(crate) struct Lengths {
     pub body: usize,
     pub sequence: usize,
     pub content: usize,
@@ -54,7 +54,11 @@ fn fields<'a>(input: &'a [u8], first: Kind, second: Kind) -> Result<TokenFields<
 }
 
 // Reads the sequence of the four fields, which fills the input.
-pub fn sequence<'a>(input: &'a [u8], first: Kind, second: Kind) -> Result<TokenFields<'a>, Fault>
+pub(crate) fn sequence<'a>(
+    input: &'a [u8],
+    first: Kind,
+    second: Kind,
+) -> Result<TokenFields<'a>, Fault>
     ensures { λ r. ⌜ fieldsRead r ≡ sequenceOf first second (now (input .entry)) ⌝ }
 {
     fields(only(input, 0x30)?, first, second)
@@ -72,7 +76,7 @@ fn fields_len(fields: TokenFields<'_>, first: Kind, second: Kind) -> Result<usiz
 }
 
 // The lengths of the four fields and of the sequence around them.
-pub fn sequence_len(
+pub(crate) fn sequence_len(
     fields: TokenFields<'_>,
     first: Kind,
     second: Kind,
@@ -101,7 +105,7 @@ fn put_fields(
 }
 
 // Writes the sequence of the four fields, which take `body` bytes.
-pub fn put_sequence(
+pub(crate) fn put_sequence(
     out: &mut [u8],
     at: usize,
     fields: TokenFields<'_>,

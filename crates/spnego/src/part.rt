@@ -23,7 +23,7 @@ use sspi::Fault;
 
 // What a field of a token holds.
 #[derive(Clone, Copy)]
-pub enum Kind {
+pub(crate) enum Kind {
     Element,
     MechTypes,
     Oid,
@@ -44,7 +44,7 @@ fn part(kind: Kind, content: &[u8]) -> Result<&[u8], Fault>
 }
 
 // Whether a field of this kind may hold the part.
-pub fn is_legal(kind: Kind, part: &[u8]) -> bool
+pub(crate) fn is_legal(kind: Kind, part: &[u8]) -> bool
     ensures { λ r. ⌜ r ≡ legalTest kind (now (part .entry)) ⌝ }
 {
     match kind {
@@ -68,7 +68,7 @@ fn inner(kind: Kind, content: &[u8]) -> Result<&[u8], Fault>
 }
 
 // The part of the field with this tag, if the input begins with it, and what follows.
-pub fn field(input: &[u8], tag: u8, kind: Kind) -> Result<(Option<&[u8]>, &[u8]), Fault>
+pub(crate) fn field(input: &[u8], tag: u8, kind: Kind) -> Result<(Option<&[u8]>, &[u8]), Fault>
     ensures { λ r. ⌜ plainOptional r ≡ fieldOf tag kind (now (input .entry)) ⌝ }
 {
     let (content, rest) = optional(input, tag)?;
@@ -89,7 +89,7 @@ fn inside_len(kind: Kind, n: usize) -> Result<usize, Fault>
 }
 
 // The length of a field whose part is legal.
-pub fn field_len(kind: Kind, part: Option<&[u8]>) -> Result<usize, Fault>
+pub(crate) fn field_len(kind: Kind, part: Option<&[u8]>) -> Result<usize, Fault>
     ensures { λ r. ⌜ r ≡ fieldLen kind (seen (part .entry)) ⌝ }
 {
     let Some(part) = part else {
@@ -124,7 +124,7 @@ fn put_present(out: &mut [u8], at: usize, tag: u8, kind: Kind, part: &[u8]) -> R
 }
 
 // Writes a field, which may be absent.
-pub fn put_field(
+pub(crate) fn put_field(
     out: &mut [u8],
     at: usize,
     tag: u8,

@@ -3,7 +3,7 @@ ghost use Prim.Native.Nat.{ℕ};
 ghost use Rattle.sspi.specs.Numbers.{firstWith};
 
 // A type whose values have numbers, each as `numbered` says.
-pub trait Numbered {
+pub(crate) trait Numbered {
     ghost numbered: { Self → ℕ };
 
     // The number of the value.
@@ -12,7 +12,7 @@ pub trait Numbered {
 }
 
 // The first of the list that has the number.
-pub fn first_with<T: Numbered + Copy>(xs: &[T], n: u32) -> Option<T>
+pub(crate) fn first_with<T: Numbered + Copy>(xs: &[T], n: u32) -> Option<T>
     ensures { λ r. ⌜ r ≡ firstWith (T·Numbered .numbered) (now (xs .entry)) n ⌝ }
 {
     for x in xs {

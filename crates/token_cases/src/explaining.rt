@@ -1,6 +1,6 @@
-use crate::digits::Line;
-use crate::walk::TroubleDisplay;
-use crate::walk::explain;
+use diagnosis::Line;
+use diagnosis::TroubleDisplay;
+use diagnosis::explain;
 use std::test::*;
 
 #[test]
