@@ -31,14 +31,14 @@ ok-value (Err e) h = absurd (false≢true h)
 -- the test says which parts are legal
 pub legal-passes : (k : Kind) (part : List ℕ) → Legal k part → legalTest k part ≡ true
 legal-passes Element part h = ap oneElement (h .2) ∙ element-one (h .0) (h .1) (h .3) (h .4)
-legal-passes MechTypes part h = ap (λ xs. isOk (readMechTypeList xs)) (h .1) ∙ ap isOk (list-written (h .0) (h .2) (h .3))
+legal-passes MechTypes part h = ap (λ xs. isOk (readMechTypeList xs)) (h .1) ∙ ap isOk (list-written (h .0) (h .2 .all) (h .2 .short))
 legal-passes Oid part h = h
 legal-passes BitString part h = h
 legal-passes OctetString part h = refl
 
 pub passes-legal : (k : Kind) (part : List ℕ) → legalTest k part ≡ true → Legal k part
 passes-legal Element part h = one-element part h
-passes-legal MechTypes part h = let v = ok-value (readMechTypeList part) h in let f = list-read part (v .0) (v .1) in (v .0, f .0, f .1, f .2)
+passes-legal MechTypes part h = let v = ok-value (readMechTypeList part) h in let f = list-read part (v .0) (v .1) in (v .0, f .0, record { all = f .1; short = f .2 })
 passes-legal Oid part h = h
 passes-legal BitString part h = h
 passes-legal OctetString part h = tt

@@ -1,6 +1,5 @@
 pub mod Inside
 pub mod Fourfold
 pub mod Whole
-pub mod Putting
 pub mod Exactly
 pub mod Portions

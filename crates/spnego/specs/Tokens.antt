@@ -6,7 +6,7 @@ use mathlib.Core.List.{List, _++_}
 use mathlib.Core.Path.{_≡_}
 use lib.ListN.{length}
 use Rattle.der.specs.Elements.{tag, element, optional, oid, bitString}
-use Rattle.mech_types.specs.Lists.{oids, mechTypeList, allOids}
+use Rattle.mech_types.specs.Lists.{mechTypeList, GoodList}
 use Rattle.spnego.specs.declared.part.Kind.{Kind}
 use Rattle.spnego.specs.declared.part.Kind.the-variants.{Element, MechTypes, Oid, BitString, OctetString}
 use Rattle.std.specs.Options.{mapped}
@@ -16,7 +16,7 @@ use Rattle.std.specs.declared.option.Option.the-variants.{Some, None}
 -- which parts a field of each kind may hold
 abbrev pub Legal : Kind → List ℕ → Type 0
 Legal Element part = (t : ℕ) × (content : List ℕ) × (part ≡ element t content) × (tag t ≡ true) × (length content < 65536)
-Legal MechTypes part = (os : List (List ℕ)) × (part ≡ mechTypeList os) × (allOids os ≡ true) × (length (oids os) < 65536)
+Legal MechTypes part = (os : List (List ℕ)) × (part ≡ mechTypeList os) × GoodList os
 Legal Oid part = oid part ≡ true
 Legal BitString part = bitString part ≡ true
 Legal OctetString part = Unit {0}

@@ -1,9 +1,7 @@
 -- What the code's values say, their references read.
 use Rattle.spnego.specs.Tokens.{Fields, Targ, Init}
 use Rattle.spnego.specs.Reading.{seen}
-use Rattle.spnego.specs.Writing.{Lens}
 use Rattle.spnego.specs.declared.fields.TokenFields.{TokenFields}
-use Rattle.spnego.specs.declared.fields.Lengths.{Lengths}
 use Rattle.spnego.specs.declared.neg_token_targ.NegTokenTarg.{NegTokenTarg}
 use Rattle.spnego.specs.declared.neg_token_init.NegTokenInit.{NegTokenInit}
 use Rattle.sspi.specs.declared.fault.Fault.{Fault}
@@ -16,13 +14,6 @@ plainFields f = record { first = seen (f .first); second = seen (f .second); thi
 abbrev pub fieldsRead : Result TokenFields Fault → Result Fields Fault
 fieldsRead (Ok f) = Ok (plainFields f)
 fieldsRead (Err e) = Err e
-
-abbrev pub plainLens : Lengths → Lens
-plainLens n = record { body = n .body; sequence = n .sequence; content = n .content; token = n .token }
-
-abbrev pub lensRead : Result Lengths Fault → Result Lens Fault
-lensRead (Ok n) = Ok (plainLens n)
-lensRead (Err e) = Err e
 
 abbrev pub plainTarg : NegTokenTarg → Targ
 plainTarg t = record { negState = seen (t .«neg_state»); supportedMech = seen (t .«supported_mech»); responseToken = seen (t .«response_token»); mechListMic = seen (t .«mech_list_mic») }

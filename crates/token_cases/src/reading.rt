@@ -42,25 +42,37 @@ fn no_list(rows: &[&[u8]]) -> Result<(), Fail> {
 #[test]
 fn smallest_targ() -> Result<(), Fail> {
     let token = NegTokenTarg::read(&[0xa1, 0x02, 0x30, 0x00])?;
-    check_eq(token.neg_state, NONE)?;
-    check_eq(token.supported_mech, NONE)?;
-    check_eq(token.response_token, NONE)?;
-    check_eq(token.mech_list_mic, NONE)
+    check_eq(
+        (
+            token.neg_state,
+            token.supported_mech,
+            token.response_token,
+            token.mech_list_mic,
+        ),
+        (NONE, NONE, NONE, NONE),
+    )
 }
 
 #[test]
 fn fields_of_a_targ() -> Result<(), Fail> {
-    // negState incomplete, NTLM, an empty response token, a MIC of two bytes
+    // negState incomplete, NTLM, an empty response token, a MIC of three bytes
     let token = NegTokenTarg::read(
         b"\xa1\x20\x30\x1e\xa0\x03\x0a\x01\x01\xa1\x0c\x06\x0a\x2b\x06\x01\x04\x01\x82\x37\x02\x02\x0a\xa2\x02\x04\x00\xa3\x05\x04\x03\x01\x02\x03",
     )?;
-    check_eq(token.neg_state, Some(b"\x0a\x01\x01".as_slice()))?;
     check_eq(
-        token.supported_mech,
-        Some(b"\x2b\x06\x01\x04\x01\x82\x37\x02\x02\x0a".as_slice()),
-    )?;
-    check_eq(token.response_token, Some(b"".as_slice()))?;
-    check_eq(token.mech_list_mic, Some(b"\x01\x02\x03".as_slice()))
+        (
+            token.neg_state,
+            token.supported_mech,
+            token.response_token,
+            token.mech_list_mic,
+        ),
+        (
+            Some(b"\x0a\x01\x01".as_slice()),
+            Some(b"\x2b\x06\x01\x04\x01\x82\x37\x02\x02\x0a".as_slice()),
+            Some(b"".as_slice()),
+            Some(b"\x01\x02\x03".as_slice()),
+        ),
+    )
 }
 
 #[test]
@@ -138,12 +150,19 @@ fn fields_of_an_init() -> Result<(), Fail> {
     )?;
     check_eq(token.this_mech, b"\x2b\x06\x01\x05\x05\x02".as_slice())?;
     check_eq(
-        token.mech_types,
-        Some(b"\x30\x07\x06\x02\x2a\x03\x06\x01\x2b".as_slice()),
-    )?;
-    check_eq(token.req_flags, Some(b"\x06\x40".as_slice()))?;
-    check_eq(token.mech_token, Some(b"".as_slice()))?;
-    check_eq(token.mech_list_mic, Some(b"\x01\x02".as_slice()))
+        (
+            token.mech_types,
+            token.req_flags,
+            token.mech_token,
+            token.mech_list_mic,
+        ),
+        (
+            Some(b"\x30\x07\x06\x02\x2a\x03\x06\x01\x2b".as_slice()),
+            Some(b"\x06\x40".as_slice()),
+            Some(b"".as_slice()),
+            Some(b"\x01\x02".as_slice()),
+        ),
+    )
 }
 
 #[test]

@@ -1,6 +1,8 @@
 use mech_types::MechTypeList;
 use spnego::NegTokenInit;
 use spnego::NegTokenTarg;
+use spnego_writer::write_init;
+use spnego_writer::write_targ;
 use sspi::ErrorKind;
 use sspi::Fault;
 use sspi::FaultDebug as _;
@@ -34,7 +36,7 @@ fn the_rest_is_kept() -> Result<(), Fail> {
         response_token: None,
         mech_list_mic: None,
     };
-    check_eq(token.write(&mut out), Ok(9))?;
+    check_eq(write_targ(&token, &mut out), Ok(9))?;
     check_eq(
         &out[0..11],
         b"\xa1\x07\x30\x05\xa0\x03\x0a\x01\x00\xee\xee".as_slice(),
@@ -44,7 +46,7 @@ fn the_rest_is_kept() -> Result<(), Fail> {
 #[test]
 fn a_refusal_touches_nothing() -> Result<(), Fail> {
     let mut out = [0xee; 3];
-    check_eq(EMPTY.write(&mut out), Err(TOO_SMALL))?;
+    check_eq(write_targ(&EMPTY, &mut out), Err(TOO_SMALL))?;
     check_eq(out, [0xee, 0xee, 0xee])?;
     let token = NegTokenTarg {
         neg_state: Some(&[0x0a, 0x01]),
@@ -52,7 +54,7 @@ fn a_refusal_touches_nothing() -> Result<(), Fail> {
         response_token: None,
         mech_list_mic: None,
     };
-    check_eq(token.write(&mut out), Err(INVALID))?;
+    check_eq(write_targ(&token, &mut out), Err(INVALID))?;
     check_eq(out, [0xee, 0xee, 0xee])
 }
 
@@ -65,7 +67,7 @@ fn parts_that_are_not_legal() -> Result<(), Fail> {
         response_token: None,
         mech_list_mic: None,
     };
-    check_eq(bad.write(&mut out), Err(INVALID))?;
+    check_eq(write_targ(&bad, &mut out), Err(INVALID))?;
     let bad = NegTokenInit {
         this_mech: &[],
         mech_types: None,
@@ -73,7 +75,7 @@ fn parts_that_are_not_legal() -> Result<(), Fail> {
         mech_token: None,
         mech_list_mic: None,
     };
-    check_eq(bad.write(&mut out), Err(INVALID))?;
+    check_eq(write_init(&bad, &mut out), Err(INVALID))?;
     let bad = NegTokenInit {
         this_mech: &[0x2b],
         mech_types: Some(&[0x30, 0x01]),
@@ -81,7 +83,7 @@ fn parts_that_are_not_legal() -> Result<(), Fail> {
         mech_token: None,
         mech_list_mic: None,
     };
-    check_eq(bad.write(&mut out), Err(INVALID))?;
+    check_eq(write_init(&bad, &mut out), Err(INVALID))?;
     let bad = NegTokenInit {
         this_mech: &[0x2b],
         mech_types: None,
@@ -89,7 +91,7 @@ fn parts_that_are_not_legal() -> Result<(), Fail> {
         mech_token: None,
         mech_list_mic: None,
     };
-    check_eq(bad.write(&mut out), Err(INVALID))?;
+    check_eq(write_init(&bad, &mut out), Err(INVALID))?;
     check_eq(out[0], 0xee)
 }
 
@@ -103,7 +105,7 @@ fn an_init() -> Result<(), Fail> {
         mech_token: Some(&[]),
         mech_list_mic: None,
     };
-    check_eq(token.write(&mut out), Ok(20))?;
+    check_eq(write_init(&token, &mut out), Ok(20))?;
     check_eq(
         &out[0..21],
         b"\x60\x12\x06\x01\x2b\xa0\x0d\x30\x0b\xa0\x05\x30\x03\x06\x01\x2a\xa2\x02\x04\x00\xee".as_slice(),
@@ -145,7 +147,7 @@ fn response_of(
         response_token: Some(response),
         mech_list_mic: None,
     };
-    check_eq(token.write(out), Ok(size))?;
+    check_eq(write_targ(&token, out), Ok(size))?;
     check(size <= out.len())?;
     let written = &out[0..size];
     check(written.starts_with(begins))?;
@@ -203,7 +205,7 @@ fn too_long(response: &[u8]) -> Result<(), Fail> {
         response_token: Some(response),
         mech_list_mic: None,
     };
-    check_eq(long.write(&mut out), Err(INVALID))
+    check_eq(write_targ(&long, &mut out), Err(INVALID))
 }
 
 #[test]
