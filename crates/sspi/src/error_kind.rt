@@ -87,7 +87,7 @@ pub enum ErrorKind {
 }
 
 // Every kind, in the order of the declaration.
-pub(crate) const KINDS: [ErrorKind; 76] = [
+const KINDS: [ErrorKind; 76] = [
     ErrorKind::Unknown,
     ErrorKind::InsufficientMemory,
     ErrorKind::InvalidHandle,

@@ -2,8 +2,6 @@ mod error_kind;
 mod fault;
 mod numbered;
 mod security_status;
-#[cfg(test)]
-mod tests;
 
 pub use error_kind::ErrorKind;
 pub use error_kind::ErrorKindDebug;

@@ -19,7 +19,7 @@ pub enum SecurityStatus {
 }
 
 // Every status, in the order of the declaration.
-pub(crate) const STATUSES: [SecurityStatus; 9] = [
+const STATUSES: [SecurityStatus; 9] = [
     SecurityStatus::Ok,
     SecurityStatus::ContinueNeeded,
     SecurityStatus::CompleteNeeded,
