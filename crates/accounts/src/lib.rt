@@ -1,3 +1,5 @@
+#![tactic(auto)]
+
 ghost use Rattle.std.specs.Prelude.{◌≡◌, true, is_ok};
 ghost use Rattle.accounts.specs.Accounts.{account_at, all_short, is_account_book, Listed};
 ghost use Rattle.accounts.specs.Matches.{is_named, matches_from, first_of, walked, Found, Exact};

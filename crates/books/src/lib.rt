@@ -1,3 +1,5 @@
+#![tactic(auto)]
+
 ghost use Rattle.std.specs.Prelude.{◌≡◌, ◌<◌, true, is_ok};
 ghost use Rattle.books.specs.Books.{be16, count_of, is_book, entry_at};
 ghost use Rattle.books.specs.Laws.{LaidOut, Listed};

@@ -1,3 +1,5 @@
+#![tactic(auto)]
+
 mod by_mech_type;
 mod extractors;
 mod fallback;

@@ -1,3 +1,5 @@
+#![tactic(auto)]
+
 ghost use Rattle.std.specs.Prelude.{◌≡◌, length, Decides};
 ghost use Rattle.der.specs.Reading.{head_of, take_of, only_of, one_element, optional_of, plain_head, plain_taken, plain_part, plain_optional};
 ghost use Rattle.der.specs.Elements.{header, element, oid, bit_string, ObjectIdentifier, BitString};

@@ -1,4 +1,6 @@
 // What the program prints beside the fields: where a refused token went wrong, and bytes in hexadecimal. The explanations are tested, not proved.
+#![tactic(auto)]
+
 mod digits;
 mod walk;
 

@@ -1,3 +1,5 @@
+#![tactic(auto)]
+
 ghost use Rattle.std.specs.Prelude.{◌≤◌, length};
 ghost use Rattle.generators.specs.Sending.{Offers, first_token, first_reply, final_token, next_token, size_of, InitSent, TargSent};
 ghost use Rattle.spnego.specs.Reading.{seen};

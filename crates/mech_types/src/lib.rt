@@ -1,3 +1,5 @@
+#![tactic(auto)]
+
 ghost use Rattle.std.specs.Prelude.{◌≡◌, ℕ, ◌<◌, ◌≤◌, List, length, is_ok, Ok};
 ghost use Rattle.der.specs.Writing.{Puts};
 ghost use Rattle.der.specs.Promises.{Exact, Writes};

@@ -1,3 +1,5 @@
+#![tactic(auto)]
+
 mod identity;
 mod mechanism;
 mod sealing;

@@ -1,10 +1,8 @@
 -- Looking up by byte string, for any type whose values have them.
 use Rattle.std.proofs.Common.{◌≡◌, ℕ, ◌+◌, ◌<◌, ◌≤◌, Bool, true, false, cond, List, [], ◌∷◌, length, get_or, drop, Some, None, Decides, sym, refl, ap, ◌∙◌}
-use Rattle.std.specs.Cmp.Lexicographic.{Matches}
 use Rattle.std.specs.Str.{bytes_eq}
-use Rattle.std.proofs.lemmas.Slice.Eq.{bytes_eq-Decides, slice_eq-Decides}
+use Rattle.std.proofs.lemmas.Slice.Eq.{bytes_eq-Decides}
 use Rattle.std.proofs.lemmas.List.{at_drop_more, at_drop_all}
-use Rattle.std.proofs.lemmas.Bool.Decides.{same_from_decides, Decides-eqb}
 use Rattle.names.specs.Names.{first_named, mech_oid, mech_of, state_bytes, state_of}
 use Rattle.names.specs.declared.mech.Mech.{Mech}
 use Rattle.names.specs.declared.mech.Mech.TheVariants.{Spnego, MsKrb5, Krb5, Ntlm}
@@ -13,10 +11,10 @@ use Rattle.names.specs.declared.neg_state.NegState.TheVariants.{Complete, Incomp
 
 -- the search from i looks at the element x at i first; r is what `==` answered there
 pub first_at : {X : Type 0} (spelling : X → List ℕ) (xs : List X) (bytes ys : List ℕ) (i : ℕ) (x : X) (r t : Bool) → i < length xs → x ≡ get_or xs i x → ys ≡ spelling x
-    → Matches (λ (a b : ℕ) (u : Bool). Decides u (a ≡ b)) bytes ys r → r ≡ t
+    → r ≡ bytes_eq bytes ys → r ≡ t
     → first_named spelling (drop i xs) bytes ≡ cond t (Some x) (first_named spelling (drop (i + 1) xs) bytes)
 first_at spelling xs bytes ys i x r t l is e m h =
-    let same : bytes_eq bytes ys ≡ t = same_from_decides (bytes_eq bytes ys) r (bytes_eq-Decides bytes ys) (slice_eq-Decides Decides-eqb bytes ys r m) ∙ h in
+    let same : bytes_eq bytes ys ≡ t = sym m ∙ h in
     at_drop_more (λ zs. first_named spelling zs bytes) xs i x l
     ∙ (ap (λ y. cond (bytes_eq bytes (spelling y)) (Some y) (first_named spelling (drop (i + 1) xs) bytes)) (sym is)
     ∙ ap (λ b. cond b (Some x) (first_named spelling (drop (i + 1) xs) bytes)) (ap (bytes_eq bytes) (sym e) ∙ same))

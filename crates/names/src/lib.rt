@@ -1,3 +1,5 @@
+#![tactic(auto)]
+
 mod mech;
 mod named;
 mod neg_state;

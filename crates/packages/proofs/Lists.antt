@@ -1,5 +1,5 @@
 -- What a package list says, entry by entry, and its laws.
-use Rattle.std.proofs.Common.{◌≡◌, ℕ, ◌-◌, ◌<◌, Bool, true, false, cond, not, ◌&&◌, ◌||◌, eqb, List, [], ◌∷◌, map, length, get_or, take, drop, Some, None, Option, sym, refl, ap, ◌∙◌, arith, lit<, Bor, MutBor}
+use Rattle.std.proofs.Common.{◌≡◌, ℕ, ◌-◌, ◌<◌, Bool, true, false, cond, not, ◌&&◌, ◌||◌, eqb, List, [], ◌∷◌, map, length, get_or, take, drop, Some, None, Option, sym, refl, ap, ◌∙◌, arith, lit<, Bor}
 use Rattle.packages.specs.Packages.{negative, positive, name_of, names, or_else, or_option, says, all_switch_off, named, opens, entries, each, parsed, ntlm_name, kerberos_name, pku2u_name}
 use Rattle.packages.specs.Walk.{flag_after, after}
 use Rattle.packages.specs.declared.package_list.PackageListConfig.{PackageListConfig}
@@ -52,11 +52,11 @@ pub walk_step : (d : Bool) (c : PackageListConfig) (e : List ℕ) (es : List (Li
 walk_step d c e es = cc (step d c.ntlm ntlm_name e es, step d c.kerberos kerberos_name e es, step d c.pku2u pku2u_name e es)
 
 -- one turn of the walk, and its end
-pub walk_again : (d next off : Bool) (c then want : PackageListConfig) (name e : List ℕ) (was : Option (MutBor (List ℕ))) (ref : MutBor (List ℕ)) (rest : Option (List ℕ))
+pub walk_again : (d next off : Bool) (c then want : PackageListConfig) (name e : List ℕ) (was : Option (Bor (List ℕ))) (ref : Bor (List ℕ)) (rest : Option (List ℕ))
     → was ≡ Some ref → pieces 0x2C ref.now ≡ e ∷ others 0x2C rest → off ≡ negative e → name ≡ name_of e → then ≡ after d c off name → next ≡ (d && off)
     → ended d c (others 0x2C (seen was)) ≡ want → ended next then (others 0x2C rest) ≡ want
 walk_again d next off c then want name e was ref rest option_is_some cut sign named changed more inv =
-    let at : ended d c (pieces 0x2C ref.now) ≡ want = ap (λ (v : Option (MutBor (List ℕ))). ended d c (others 0x2C (seen v))) (sym option_is_some) ∙ inv in
+    let at : ended d c (pieces 0x2C ref.now) ≡ want = ap (λ (v : Option (Bor (List ℕ))). ended d c (others 0x2C (seen v))) (sym option_is_some) ∙ inv in
     let es : List (List ℕ) = others 0x2C rest in
     ap (λ v. ended v then es) more
     ∙ (ap (λ (v : PackageListConfig). ended (d && off) v es) (changed ∙ ap (after d c off) named)

@@ -1,3 +1,5 @@
+#![tactic(auto)]
+
 mod filter;
 mod package_list;
 mod protocol;

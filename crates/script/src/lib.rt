@@ -1,3 +1,5 @@
+#![tactic(auto)]
+
 ghost use Rattle.std.specs.Prelude.{◌≡◌, ◌<◌, ◌≤◌, length};
 ghost use Rattle.books.specs.Views.{book_or_empty, book_bytes};
 ghost use Rattle.mechanism.specs.Promises.{step_front, Within};

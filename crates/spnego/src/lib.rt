@@ -1,3 +1,5 @@
+#![tactic(auto)]
+
 mod fields;
 mod laws;
 mod neg_token_init;

@@ -1,4 +1,4 @@
-ghost use Rattle.std.specs.Prelude.{◌≡◌, Some, Decides};
+ghost use Rattle.std.specs.Prelude.{◌≡◌, ◌==◌, Some, Decides};
 ghost use Rattle.sspi.specs.Kinds.{kind_number, kind_of};
 ghost use Rattle.std.specs.Cmp.Rules.{comparing};
 ghost use Rattle.std.proofs.Common.{rules};
@@ -194,11 +194,14 @@ impl ErrorKind {
 
 // Equal where the numbers are, since no two have the same.
 impl PartialEq for ErrorKind {
-    ghost equals = { λ a b r. Decides r (a ≡ b) };
+    ghost eq = { λ a b. kind_number a == kind_number b };
 
     ghost laws = { Prim.search (comparing, rules) };
 
-    fn eq(&self, other: &ErrorKind) -> bool {
+    fn eq(&self, other: &ErrorKind) -> bool
+        ensures numbers { result ≡ (kind_number self.now == kind_number other.now) }
+        ensures same { Decides result (self.now ≡ other.now) }
+    {
         self.number() == other.number()
     }
 }

@@ -1,3 +1,5 @@
+#![tactic(auto)]
+
 mod error_kind;
 mod fault;
 mod numbered;

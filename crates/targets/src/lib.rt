@@ -1,3 +1,5 @@
+#![tactic(auto)]
+
 ghost use Rattle.std.specs.Prelude.{◌≡◌};
 ghost use Rattle.targets.specs.Addresses.{leading, two_digits, three_digits, decimal255, ipv4, all_hex, hex_group, last_group, groups, cut_double, seen_pair, eight, at_most_seven, ipv6, target_is_address};
 

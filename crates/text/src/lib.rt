@@ -1,3 +1,5 @@
+#![tactic(auto)]
+
 ghost use Rattle.std.specs.Prelude.{◌≡◌, ◌∷◌};
 ghost use Rattle.text.specs.Cases.{same_ignoring_case};
 ghost use Rattle.text.specs.Pieces.{pieces, up_to, behind, others, after_last, seen};

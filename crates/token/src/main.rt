@@ -1,3 +1,5 @@
+#![tactic(auto)]
+
 mod show;
 
 use diagnosis::Line;

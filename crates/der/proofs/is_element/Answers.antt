@@ -4,7 +4,7 @@ use Rattle.der.proofs.is_element.Goals as goal
 
 pub returns-in-Ok : goal.returns-in-Ok
 unfolding one_element
-returns-in-Ok c = c.is-empty.ensures ∙ ap whole c.in-Ok.ensures
+returns-in-Ok c = c.is_empty.ensures ∙ ap whole c.in-Ok.ensures
 
 pub returns-in-Err : goal.returns-in-Err
 unfolding one_element

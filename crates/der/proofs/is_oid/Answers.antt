@@ -4,15 +4,15 @@ use Rattle.der.proofs.Rules.{arcs_stop, arcs-inside, arcs_begin, arcs_all, oid_n
 use Rattle.der.proofs.is_oid.Goals as goal
 use Rattle.der.proofs.is_oid.Goals.{else-begins-via-then-begins+else-b, else-begins-via-else-begins}
 
-pub returns-then-is-empty : goal.returns-then-is-empty
-returns-then-is-empty c =
-    let e = sym (oid_none c.args.content.now (sym c.if-is-empty.ensures)) in
+pub returns-then-is_empty : goal.returns-then-is_empty
+returns-then-is_empty c =
+    let e = sym (oid_none c.args.content.now (sym c.if-is_empty.ensures)) in
     record { answer = e; rule = oid_ruled _ c.args.content.now e }
 
 pub returns-then-b : goal.returns-then-b
 returns-then-b c =
     let stop = arcs_stop c.loop-b.begins c.args.content.now c.loop-b.b-index c.loop-b-test.true c.if-begins.true c.if-b.true in
-    let e = sym stop ∙ (c.loop-b.invariant ∙ sym (oid_some c.args.content.now (sym c.if-is-empty.ensures))) in
+    let e = sym stop ∙ (c.loop-b.invariant ∙ sym (oid_some c.args.content.now (sym c.if-is_empty.ensures))) in
     record { answer = e; rule = oid_ruled _ c.args.content.now e }
 
 pub loop-b-preserved : goal.loop-b-preserved
@@ -27,5 +27,5 @@ loop-b-preserved c =
 pub returns : goal.returns
 returns c =
     let all = arcs_all c.loop-b.begins c.args.content.now c.loop-b.b-index c.loop-b-test.false in
-    let e = sym all ∙ (c.loop-b.invariant ∙ sym (oid_some c.args.content.now (sym c.if-is-empty.ensures))) in
+    let e = sym all ∙ (c.loop-b.invariant ∙ sym (oid_some c.args.content.now (sym c.if-is_empty.ensures))) in
     record { answer = e; rule = oid_ruled _ c.args.content.now e }

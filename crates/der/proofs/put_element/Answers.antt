@@ -7,7 +7,7 @@ use Rattle.der.proofs.put_element.Goals.{then-at-out-via-then-at-out, then-at-ou
 
 pub returns-then-at-out : goal.returns-then-at-out
 returns-then-at-out c =
-    let s = element_size c.args.tag c.in-ok-n.n c.args.content.now (sym c.in-ok-n.ensures) in
+    let s = element_size c.args.tag c.in_ok-n.n c.args.content.now (sym c.in_ok-n.ensures) in
     let l : length c.args.out.now < c.args.at + length (element c.args.tag c.args.content.now) =
     elim c.then-at-out.branch [
       | then-at-out-via-then-at-out w ↦ omega (arith, w.if-at-out.true)
@@ -16,19 +16,19 @@ returns-then-at-out c =
     let w = unfit_if (length c.args.content.now) c.args.at c.args.out.now (element c.args.tag c.args.content.now) s.0 l in
     record { answer = w.0; holds = w.1 }
 
-pub returns-in-err-at : goal.returns-in-err-at
-returns-in-err-at c =
-    let s = element_size c.args.tag c.in-ok-n.n c.args.content.now (sym c.in-ok-n.ensures) in
-    let p = puts_if _ c.args.at _ c.args.out.now (header c.args.tag (length c.args.content.now)) c.put-header.new.out s.0 c.in-err-at.ensures.answer c.put-header.ensures.holds in
-    let w = fits_if (length c.args.content.now) c.args.at c.from-residual-in-err-at.result c.args.out.now (element c.args.tag c.args.content.now) c.put-header.new.out s.0 (omega (arith, s.1))
-    (refused-element _ c.from-residual-in-err-at.result c.args.out.now c.put-header.new.out c.put-header.new.out c.args.content.now c.args.at c.args.tag p) in
+pub returns-in_err-at : goal.returns-in_err-at
+returns-in_err-at c =
+    let s = element_size c.args.tag c.in_ok-n.n c.args.content.now (sym c.in_ok-n.ensures) in
+    let p = puts_if _ c.args.at _ c.args.out.now (header c.args.tag (length c.args.content.now)) c.put_header.new.out s.0 c.in_err-at.ensures.answer c.put_header.ensures.holds in
+    let w = fits_if (length c.args.content.now) c.args.at c.from_residual-in_err-at.result c.args.out.now (element c.args.tag c.args.content.now) c.put_header.new.out s.0 (omega (arith, s.1))
+    (refused-element _ c.from_residual-in_err-at.result c.args.out.now c.put_header.new.out c.put_header.new.out c.args.content.now c.args.at c.args.tag p) in
     record { answer = w.0; holds = w.1 }
 
 pub returns : goal.returns
 returns c =
-    let s = element_size c.args.tag c.in-ok-n.n c.args.content.now (sym c.in-ok-n.ensures) in
-    let p = puts_if _ c.args.at _ c.args.out.now (header c.args.tag (length c.args.content.now)) c.put-header.new.out s.0 c.in-ok-at.ensures.answer c.put-header.ensures.holds in
-    let q = puts_bytes c.put-bytes.result c.put-header.new.out c.args.content.now c.put-bytes.new.out c.in-ok-at.at c.put-bytes.ensures.answer c.put-bytes.ensures.holds in
-    let w = fits_if (length c.args.content.now) c.args.at c.put-bytes.result c.args.out.now (element c.args.tag c.args.content.now) c.put-bytes.new.out s.0 (omega (arith, s.1))
-    (puts_element c.put-bytes.result c.args.out.now c.put-header.new.out c.put-bytes.new.out c.args.content.now c.args.at c.in-ok-at.at c.args.tag p q) in
+    let s = element_size c.args.tag c.in_ok-n.n c.args.content.now (sym c.in_ok-n.ensures) in
+    let p = puts_if _ c.args.at _ c.args.out.now (header c.args.tag (length c.args.content.now)) c.put_header.new.out s.0 c.in_ok-at.ensures.answer c.put_header.ensures.holds in
+    let q = puts_bytes c.put_bytes.result c.put_header.new.out c.args.content.now c.put_bytes.new.out c.in_ok-at.at c.put_bytes.ensures.answer c.put_bytes.ensures.holds in
+    let w = fits_if (length c.args.content.now) c.args.at c.put_bytes.result c.args.out.now (element c.args.tag c.args.content.now) c.put_bytes.new.out s.0 (omega (arith, s.1))
+    (puts_element c.put_bytes.result c.args.out.now c.put_header.new.out c.put_bytes.new.out c.args.content.now c.args.at c.in_ok-at.at c.args.tag p q) in
     record { answer = w.0; holds = w.1 }

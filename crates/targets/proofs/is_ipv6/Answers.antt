@@ -4,11 +4,11 @@ use Rattle.targets.proofs.is_ipv6.Goals as goal
 
 pub returns-in-None : goal.returns-in-None
 unfolding ipv6
-returns-in-None c = c.is-eight.ensures ∙ (ap eight c.count-groups.ensures ∙ ap (groups_fit c.args.text.now) c.in-None.ensures)
+returns-in-None c = c.is_eight.ensures ∙ (ap eight c.count_groups.ensures ∙ ap (groups_fit c.args.text.now) c.in-None.ensures)
 
 pub returns-in-Some : goal.returns-in-Some
 unfolding ipv6
 returns-in-Some c =
-    c.is-at-most-seven.ensures
-    ∙ (ap (λ v. at_most_seven v c.count-groups-in-Some-2.result) c.count-groups-in-Some.ensures
-    ∙ (ap (at_most_seven (groups false c.in-Some.front.now)) c.count-groups-in-Some-2.ensures ∙ ap (groups_fit c.args.text.now) c.in-Some.ensures))
+    c.is_at_most_seven.ensures
+    ∙ (ap (λ v. at_most_seven v c.count_groups-in-Some-2.result) c.count_groups-in-Some.ensures
+    ∙ (ap (at_most_seven (groups false c.in-Some.front.now)) c.count_groups-in-Some-2.ensures ∙ ap (groups_fit c.args.text.now) c.in-Some.ensures))

@@ -5,4 +5,4 @@ use Rattle.text.proofs.eq_ignore_ascii_case.Goals as goal
 
 pub returns : goal.returns
 unfolding same_ignoring_case
-returns c = same_when (small c.args.a.now) (small c.args.b.now) c.eq-ignore-ascii-case.result (cases_from_iff c.eq-ignore-ascii-case.ensures.test)
+returns c = same_when (small c.args.a.now) (small c.args.b.now) c.eq_ignore_ascii_case.result (cases_from_iff c.eq_ignore_ascii_case.ensures.test)

@@ -11,6 +11,6 @@ returns-then-at-len c = record { answer = entry_outside c.args.self.now.bytes.no
 pub returns : goal.returns
 returns c =
     record {
-      answer = entry-inside c.args.self.now.bytes.now c.args.i _ _ c.number-at-at.ensures c.number-at-len.ensures (omega arith) (omega arith);
+      answer = entry-inside c.args.self.now.bytes.now c.args.i _ _ c.number_at-at.ensures c.number_at-len.ensures (omega arith) (omega arith);
       listed = listed c.args.self.now.bytes.now c.args.i;
     }

@@ -6,30 +6,30 @@ use Rattle.mech_types.specs.Reading.{oids_of, read_mech_type_list}
 use Rattle.mech_types.proofs.Listing.{verdict, verdict_more, verdict_refused, verdict_all, err_from_verdict, ok_from_verdict, next_shorter}
 use Rattle.mech_types.proofs.MechTypeList.parse.Goals as goal
 
-pub returns-in-err-oids : goal.returns-in-err-oids
+pub returns-in_err-oids : goal.returns-in_err-oids
 unfolding read_mech_type_list
-returns-in-err-oids c = search rules
+returns-in_err-oids c = search rules
 
-pub returns-in-err-after : goal.returns-in-err-after
+pub returns-in_err-after : goal.returns-in_err-after
 unfolding read_mech_type_list
-returns-in-err-after c =
-    let p = err_from_is_err_and c.from-residual-in-err-after.result c.from-residual-in-err-after.ensures.1 in
-    let whole = ap (λ r. and_then r oids_of) (sym c.in-ok-oids.ensures) in
-    let refused = verdict_refused c.loop-rest.rest.now _ c.loop-rest-test.ensures (sym c.in-err-after.ensures) in
-    let e = whole ∙ err_from_verdict (oids_of c.in-ok-oids.oids.now) _ (sym c.loop-rest.invariant ∙ refused) in
+returns-in_err-after c =
+    let p = err_from_is_err_and c.from_residual-in_err-after.result c.from_residual-in_err-after.ensures.1 in
+    let whole = ap (λ r. and_then r oids_of) (sym c.in_ok-oids.ensures) in
+    let refused = verdict_refused c.loop-rest.rest.now _ c.loop-rest-test.ensures (sym c.in_err-after.ensures) in
+    let e = whole ∙ err_from_verdict (oids_of c.in_ok-oids.oids.now) _ (sym c.loop-rest.invariant ∙ refused) in
     rw (p.1, p.2) (record { answer = sym e; test = ap is_ok (sym e) })
 
 pub loop-rest-smaller : goal.loop-rest-smaller
-loop-rest-smaller c = next_shorter c.loop-rest.rest.now (c.in-ok-after.field-0-0.now, c.in-ok-after.after.now) (sym c.in-ok-after.ensures)
+loop-rest-smaller c = next_shorter c.loop-rest.rest.now (c.in_ok-after.field-0-0.now, c.in_ok-after.after.now) (sym c.in_ok-after.ensures)
 
 pub loop-rest-preserved : goal.loop-rest-preserved
 loop-rest-preserved c =
-    verdict_more c.loop-rest.rest.now (c.in-ok-after.field-0-0.now, c.in-ok-after.after.now) (sym c.in-ok-after.ensures) ∙ c.loop-rest.invariant
+    verdict_more c.loop-rest.rest.now (c.in_ok-after.field-0-0.now, c.in_ok-after.after.now) (sym c.in_ok-after.ensures) ∙ c.loop-rest.invariant
 
 pub returns : goal.returns
 unfolding read_mech_type_list
 returns c =
-    let whole = ap (λ r. and_then r oids_of) (sym c.in-ok-oids.ensures) in
+    let whole = ap (λ r. and_then r oids_of) (sym c.in_ok-oids.ensures) in
     let ends = verdict_all c.loop-rest.rest.now c.loop-rest-test.ensures in
-    let ok = ok_from_verdict (oids_of c.in-ok-oids.oids.now) (sym c.loop-rest.invariant ∙ ends) in
+    let ok = ok_from_verdict (oids_of c.in_ok-oids.oids.now) (sym c.loop-rest.invariant ∙ ends) in
     record { answer = sym whole; test = sym (ap is_ok whole ∙ ok) }

@@ -8,41 +8,41 @@ use Rattle.der.proofs.Promised.{writes_unfit, writes_short, writes_made}
 use Rattle.mech_types.proofs.Rows.{list_sizes, list_refused}
 use Rattle.mech_types.proofs.MechTypeList.write.Goals as goal
 
-pub returns-in-err-body : goal.returns-in-err-body
-returns-in-err-body c =
-    let p = err_from_is_err_and c.from-residual.result c.from-residual.ensures.1 in
-    let x = list_refused (plain_oids c.args.oids.now) _ (sym c.in-err-body.ensures) in
+pub returns-in_err-body : goal.returns-in_err-body
+returns-in_err-body c =
+    let p = err_from_is_err_and c.from_residual.result c.from_residual.ensures.1 in
+    let x = list_refused (plain_oids c.args.oids.now) _ (sym c.in_err-body.ensures) in
     rw (p.1, p.2) (writes_unfit _ c.args.out.now _ x.0 x.1)
 
-pub returns-in-err-element-len : goal.returns-in-err-element-len
-returns-in-err-element-len c =
-    let z = list_sizes (plain_oids c.args.oids.now) c.in-ok-body.body c.in-ok-body.ensures in
-    absurd (err_ok _ _ (c.in-err-element-len.ensures ∙ z.token))
+pub returns-in_err-element_len : goal.returns-in_err-element_len
+returns-in_err-element_len c =
+    let z = list_sizes (plain_oids c.args.oids.now) c.in_ok-body.body c.in_ok-body.ensures in
+    absurd (err_ok _ _ (c.in_err-element_len.ensures ∙ z.token))
 
 pub returns-then-branch : goal.returns-then-branch
 returns-then-branch c =
-    let z = list_sizes (plain_oids c.args.oids.now) c.in-ok-body.body c.in-ok-body.ensures in
-    let n = same_ok _ _ (c.in-ok-element-len.ensures ∙ z.token) in
+    let z = list_sizes (plain_oids c.args.oids.now) c.in_ok-body.body c.in_ok-body.ensures in
+    let n = same_ok _ _ (c.in_ok-element_len.ensures ∙ z.token) in
     writes_short _ c.args.out.now z.good (omega (arith, n, c.if-branch.true))
 
-pub returns-in-err-at : goal.returns-in-err-at
+pub returns-in_err-at : goal.returns-in_err-at
 unfolding mech_type_list
-returns-in-err-at c =
-    let z = list_sizes (plain_oids c.args.oids.now) c.in-ok-body.body c.in-ok-body.ensures in
-    let n = same_ok _ _ (c.in-ok-element-len.ensures ∙ z.token) in
+returns-in_err-at c =
+    let z = list_sizes (plain_oids c.args.oids.now) c.in_ok-body.body c.in_ok-body.ensures in
+    let n = same_ok _ _ (c.in_ok-element_len.ensures ∙ z.token) in
     writes_made (mech_type_list (plain_oids c.args.oids.now)) c.args.out.now _ _ z.good (omega (arith, n, c.if-branch.false))
     (refused-element _ _ _ _ _ (oids (plain_oids c.args.oids.now)) _ 0x30
-    (puts_header 0x30 _ c.in-ok-body.body _ _ _ _ z.body z.fits c.in-err-at.ensures.answer c.put-header.ensures.holds))
+    (puts_header 0x30 _ c.in_ok-body.body _ _ _ _ z.body z.fits c.in_err-at.ensures.answer c.put_header.ensures.holds))
 
-pub put-oids-requires : goal.put-oids-requires
-put-oids-requires c = (list_sizes (plain_oids c.args.oids.now) c.in-ok-body.body c.in-ok-body.ensures).good.short
+pub put_oids-requires : goal.put_oids-requires
+put_oids-requires c = (list_sizes (plain_oids c.args.oids.now) c.in_ok-body.body c.in_ok-body.ensures).good.short
 
 pub returns : goal.returns
 unfolding mech_type_list
 returns c =
-    let z = list_sizes (plain_oids c.args.oids.now) c.in-ok-body.body c.in-ok-body.ensures in
-    let n = same_ok _ _ (c.in-ok-element-len.ensures ∙ z.token) in
+    let z = list_sizes (plain_oids c.args.oids.now) c.in_ok-body.body c.in_ok-body.ensures in
+    let n = same_ok _ _ (c.in_ok-element_len.ensures ∙ z.token) in
     writes_made (mech_type_list (plain_oids c.args.oids.now)) c.args.out.now _ _ z.good (omega (arith, n, c.if-branch.false))
     (puts_element _ _ _ _ (oids (plain_oids c.args.oids.now)) _ _ 0x30
-    (puts_header 0x30 _ c.in-ok-body.body _ _ _ _ z.body z.fits c.in-ok-at.ensures.answer c.put-header.ensures.holds)
-    c.put-oids.ensures)
+    (puts_header 0x30 _ c.in_ok-body.body _ _ _ _ z.body z.fits c.in_ok-at.ensures.answer c.put_header.ensures.holds)
+    c.put_oids.ensures)

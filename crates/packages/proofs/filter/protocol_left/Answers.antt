@@ -6,9 +6,9 @@ pub returns-then-not-any : goal.returns-then-not-any
 unfolding filtered
 returns-then-not-any c = search rules
 
-pub returns-then-is-open : goal.returns-then-is-open
+pub returns-then-is_open : goal.returns-then-is_open
 unfolding filtered
-returns-then-is-open c = search rules
+returns-then-is_open c = search rules
 
 pub returns-in-Kerberos : goal.returns-in-Kerberos
 unfolding filtered

@@ -5,33 +5,33 @@ use Rattle.spnego.specs.Views.{plain_fields}
 use Rattle.spnego_writer.proofs.Putting.{four_lengths}
 use Rattle.spnego_writer.proofs.fields.put_fields.Goals as goal
 
-pub put-field-requires : goal.put-field-requires
-put-field-requires c = let n = four_lengths c.args.first c.args.second (plain_fields c.args.fields) in omega (arith, c.requires)
+pub put_field-requires : goal.put_field-requires
+put_field-requires c = let n = four_lengths c.args.first c.args.second (plain_fields c.args.fields) in omega (arith, c.requires)
 
-pub put-field-requires-2 : goal.put-field-requires-2
-put-field-requires-2 c = let n = four_lengths c.args.first c.args.second (plain_fields c.args.fields) in omega (arith, c.requires)
+pub put_field-requires-2 : goal.put_field-requires-2
+put_field-requires-2 c = let n = four_lengths c.args.first c.args.second (plain_fields c.args.fields) in omega (arith, c.requires)
 
-pub put-field-requires-3 : goal.put-field-requires-3
-put-field-requires-3 c = let n = four_lengths c.args.first c.args.second (plain_fields c.args.fields) in omega (arith, c.requires)
+pub put_field-requires-3 : goal.put_field-requires-3
+put_field-requires-3 c = let n = four_lengths c.args.first c.args.second (plain_fields c.args.fields) in omega (arith, c.requires)
 
-pub put-field-requires-4 : goal.put-field-requires-4
-put-field-requires-4 c = let n = four_lengths c.args.first c.args.second (plain_fields c.args.fields) in omega (arith, c.requires)
+pub put_field-requires-4 : goal.put_field-requires-4
+put_field-requires-4 c = let n = four_lengths c.args.first c.args.second (plain_fields c.args.fields) in omega (arith, c.requires)
 
-pub returns-in-err-at : goal.returns-in-err-at
+pub returns-in_err-at : goal.returns-in_err-at
 unfolding four_fields
-returns-in-err-at c = puts_refused _ _ _ _ _ _ _ _ c.in-err-at.ensures
+returns-in_err-at c = puts_refused _ _ _ _ _ _ _ _ c.in_err-at.ensures
 
-pub returns-in-err-at-2 : goal.returns-in-err-at-2
+pub returns-in_err-at-2 : goal.returns-in_err-at-2
 unfolding four_fields
-returns-in-err-at-2 c = puts_puts _ _ _ _ _ _ _ _ c.in-ok-at.ensures (puts_refused _ _ _ _ _ _ _ _ c.in-err-at-2.ensures)
+returns-in_err-at-2 c = puts_puts _ _ _ _ _ _ _ _ c.in_ok-at.ensures (puts_refused _ _ _ _ _ _ _ _ c.in_err-at-2.ensures)
 
-pub returns-in-err-at-3 : goal.returns-in-err-at-3
+pub returns-in_err-at-3 : goal.returns-in_err-at-3
 unfolding four_fields
-returns-in-err-at-3 c =
-    puts_puts _ _ _ _ _ _ _ _ c.in-ok-at.ensures (puts_puts _ _ _ _ _ _ _ _ c.in-ok-at-2.ensures (puts_refused _ _ _ _ _ _ _ _ c.in-err-at-3.ensures))
+returns-in_err-at-3 c =
+    puts_puts _ _ _ _ _ _ _ _ c.in_ok-at.ensures (puts_puts _ _ _ _ _ _ _ _ c.in_ok-at-2.ensures (puts_refused _ _ _ _ _ _ _ _ c.in_err-at-3.ensures))
 
 pub returns : goal.returns
 unfolding four_fields
 returns c =
-    puts_puts _ _ _ _ _ _ _ _ c.in-ok-at.ensures
-    (puts_puts _ _ _ _ _ _ _ _ c.in-ok-at-2.ensures (puts_puts _ _ _ _ _ _ _ _ c.in-ok-at-3.ensures c.put-field-4.ensures))
+    puts_puts _ _ _ _ _ _ _ _ c.in_ok-at.ensures
+    (puts_puts _ _ _ _ _ _ _ _ c.in_ok-at-2.ensures (puts_puts _ _ _ _ _ _ _ _ c.in_ok-at-3.ensures c.put_field-4.ensures))

@@ -3,15 +3,15 @@ use Rattle.spnego.specs.Tokens.{four_fields, sequence}
 use Rattle.spnego.specs.Views.{plain_fields}
 use Rattle.spnego_writer.proofs.fields.put_sequence.Goals as goal
 
-pub returns-in-err-at : goal.returns-in-err-at
+pub returns-in_err-at : goal.returns-in_err-at
 unfolding sequence
-returns-in-err-at c =
+returns-in_err-at c =
     refused-element _ _ _ _ _ (four_fields c.args.first c.args.second (plain_fields c.args.fields)) _ 0x30
-    (puts_header 0x30 _ c.args.body _ _ _ _ c.requires.0 c.requires.1 c.in-err-at.ensures.answer c.put-header.ensures.holds)
+    (puts_header 0x30 _ c.args.body _ _ _ _ c.requires.0 c.requires.1 c.in_err-at.ensures.answer c.put_header.ensures.holds)
 
 pub returns : goal.returns
 unfolding sequence
 returns c =
     puts_element _ _ _ _ (four_fields c.args.first c.args.second (plain_fields c.args.fields)) _ _ 0x30
-    (puts_header 0x30 _ c.args.body _ _ _ _ c.requires.0 c.requires.1 c.in-ok-at.ensures.answer c.put-header.ensures.holds)
-    c.put-fields.ensures
+    (puts_header 0x30 _ c.args.body _ _ _ _ c.requires.0 c.requires.1 c.in_ok-at.ensures.answer c.put_header.ensures.holds)
+    c.put_fields.ensures

@@ -8,48 +8,48 @@ use Rattle.spnego_writer.specs.Views.{plain_lens}
 use Rattle.spnego_writer.proofs.Putting.{init_sizes, init_bounds}
 use Rattle.spnego_writer.proofs.init.put_init.Goals as goal
 
-pub returns-in-err-at : goal.returns-in-err-at
+pub returns-in_err-at : goal.returns-in_err-at
 unfolding init_bytes
-returns-in-err-at c =
+returns-in_err-at c =
     let z = init_sizes (plain_init c.args.token.now) (plain_lens c.args.n) c.requires in
     refused-element _ _ _ _ _ (init_content (plain_init c.args.token.now)) _ 0x60
-    (puts_header 0x60 _ c.args.n.content _ _ _ _ z.content (omega (arith, z.content, z.good.short)) c.in-err-at.ensures.answer c.put-header.ensures.holds)
+    (puts_header 0x60 _ c.args.n.content _ _ _ _ z.content (omega (arith, z.content, z.good.short)) c.in_err-at.ensures.answer c.put_header.ensures.holds)
 
-pub returns-in-err-at-2 : goal.returns-in-err-at-2
+pub returns-in_err-at-2 : goal.returns-in_err-at-2
 unfolding init_bytes init_content
-returns-in-err-at-2 c =
+returns-in_err-at-2 c =
     let z = init_sizes (plain_init c.args.token.now) (plain_lens c.args.n) c.requires in
     let b = init_bounds (plain_init c.args.token.now) z.good in
     puts_element _ _ _ _ (init_content (plain_init c.args.token.now)) _ _ 0x60
-    (puts_header 0x60 _ c.args.n.content _ _ _ _ z.content (omega (arith, z.content, z.good.short)) c.in-ok-at.ensures.answer c.put-header.ensures.holds)
-    (puts_refused _ _ _ _ _ _ _ _ (puts_if (length c.args.token.now.this_mech.now) _ _ _ _ _ b.0 c.in-err-at-2.ensures.answer c.put-element.ensures.holds))
+    (puts_header 0x60 _ c.args.n.content _ _ _ _ z.content (omega (arith, z.content, z.good.short)) c.in_ok-at.ensures.answer c.put_header.ensures.holds)
+    (puts_refused _ _ _ _ _ _ _ _ (puts_if (length c.args.token.now.this_mech.now) _ _ _ _ _ b.0 c.in_err-at-2.ensures.answer c.put_element.ensures.holds))
 
-pub returns-in-err-at-3 : goal.returns-in-err-at-3
+pub returns-in_err-at-3 : goal.returns-in_err-at-3
 unfolding init_bytes init_content
-returns-in-err-at-3 c =
+returns-in_err-at-3 c =
     let z = init_sizes (plain_init c.args.token.now) (plain_lens c.args.n) c.requires in
     let b = init_bounds (plain_init c.args.token.now) z.good in
     puts_element _ _ _ _ (init_content (plain_init c.args.token.now)) _ _ 0x60
-    (puts_header 0x60 _ c.args.n.content _ _ _ _ z.content (omega (arith, z.content, z.good.short)) c.in-ok-at.ensures.answer c.put-header.ensures.holds)
+    (puts_header 0x60 _ c.args.n.content _ _ _ _ z.content (omega (arith, z.content, z.good.short)) c.in_ok-at.ensures.answer c.put_header.ensures.holds)
     (puts_puts _ _ _ _ _ _ _ _
-    (puts_if (length c.args.token.now.this_mech.now) _ _ _ _ _ b.0 c.in-ok-at-2.ensures.answer c.put-element.ensures.holds)
+    (puts_if (length c.args.token.now.this_mech.now) _ _ _ _ _ b.0 c.in_ok-at-2.ensures.answer c.put_element.ensures.holds)
     (refused-element _ _ _ _ _ (sequence MechTypes BitString (init_fields (plain_init c.args.token.now))) _ 0xA0
-    (puts_header 0xA0 _ c.args.n.sequence _ _ _ _ z.sequence (omega (arith, z.sequence, b.1)) c.in-err-at-3.ensures.answer c.put-header-2.ensures.holds)))
+    (puts_header 0xA0 _ c.args.n.sequence _ _ _ _ z.sequence (omega (arith, z.sequence, b.1)) c.in_err-at-3.ensures.answer c.put_header-2.ensures.holds)))
 
-pub put-sequence-requires : goal.put-sequence-requires
-put-sequence-requires c =
+pub put_sequence-requires : goal.put_sequence-requires
+put_sequence-requires c =
     let z = init_sizes (plain_init c.args.token.now) (plain_lens c.args.n) c.requires in
-    (z.body ∙ ap (λ f. length (four_fields MechTypes BitString f)) (sym c.init-fields.ensures), z.body_fits)
+    (z.body ∙ ap (λ f. length (four_fields MechTypes BitString f)) (sym c.init_fields.ensures), z.body_fits)
 
 pub returns : goal.returns
 unfolding init_bytes init_content
 returns c =
     let z = init_sizes (plain_init c.args.token.now) (plain_lens c.args.n) c.requires in
     let b = init_bounds (plain_init c.args.token.now) z.good in
-    let q = subst (λ (f : Fields). Puts c.put-sequence.result c.put-header-2.new.out c.in-ok-at-3.at (sequence MechTypes BitString f) c.put-sequence.new.out) c.init-fields.ensures c.put-sequence.ensures in
+    let q = subst (λ (f : Fields). Puts c.put_sequence.result c.put_header-2.new.out c.in_ok-at-3.at (sequence MechTypes BitString f) c.put_sequence.new.out) c.init_fields.ensures c.put_sequence.ensures in
     puts_element _ _ _ _ (init_content (plain_init c.args.token.now)) _ _ 0x60
-    (puts_header 0x60 _ c.args.n.content _ _ _ _ z.content (omega (arith, z.content, z.good.short)) c.in-ok-at.ensures.answer c.put-header.ensures.holds)
+    (puts_header 0x60 _ c.args.n.content _ _ _ _ z.content (omega (arith, z.content, z.good.short)) c.in_ok-at.ensures.answer c.put_header.ensures.holds)
     (puts_puts _ _ _ _ _ _ _ _
-    (puts_if (length c.args.token.now.this_mech.now) _ _ _ _ _ b.0 c.in-ok-at-2.ensures.answer c.put-element.ensures.holds)
+    (puts_if (length c.args.token.now.this_mech.now) _ _ _ _ _ b.0 c.in_ok-at-2.ensures.answer c.put_element.ensures.holds)
     (puts_element _ _ _ _ (sequence MechTypes BitString (init_fields (plain_init c.args.token.now))) _ _ 0xA0
-    (puts_header 0xA0 _ c.args.n.sequence _ _ _ _ z.sequence (omega (arith, z.sequence, b.1)) c.in-ok-at-3.ensures.answer c.put-header-2.ensures.holds) q))
+    (puts_header 0xA0 _ c.args.n.sequence _ _ _ _ z.sequence (omega (arith, z.sequence, b.1)) c.in_ok-at-3.ensures.answer c.put_header-2.ensures.holds) q))

@@ -6,21 +6,21 @@ use Rattle.der.proofs.Promised.{writes_unfit, writes_short, writes_made}
 use Rattle.spnego_writer.proofs.Putting.{targ_sizes, targ_refused}
 use Rattle.spnego_writer.proofs.targ.write_targ.Goals as goal
 
-pub returns-in-err-n : goal.returns-in-err-n
-returns-in-err-n c =
-    let p = err_from_is_err_and c.from-residual.result c.from-residual.ensures.1 in
-    let x = targ_refused (plain_targ c.args.token.now) _ (sym c.in-err-n.ensures) in
+pub returns-in_err-n : goal.returns-in_err-n
+returns-in_err-n c =
+    let p = err_from_is_err_and c.from_residual.result c.from_residual.ensures.1 in
+    let x = targ_refused (plain_targ c.args.token.now) _ (sym c.in_err-n.ensures) in
     rw (p.1, p.2) (writes_unfit _ c.args.out.now _ x.0 x.1)
 
 pub returns-then-out-n : goal.returns-then-out-n
 returns-then-out-n c =
-    let z = targ_sizes (plain_targ c.args.token.now) (plain_lens c.in-ok-n.n) (sym c.in-ok-n.ensures) in
+    let z = targ_sizes (plain_targ c.args.token.now) (plain_lens c.in_ok-n.n) (sym c.in_ok-n.ensures) in
     writes_short _ c.args.out.now z.good (omega (arith, z.token))
 
-pub put-targ-requires : goal.put-targ-requires
-put-targ-requires c = sym c.in-ok-n.ensures
+pub put_targ-requires : goal.put_targ-requires
+put_targ-requires c = sym c.in_ok-n.ensures
 
 pub returns : goal.returns
 returns c =
-    let z = targ_sizes (plain_targ c.args.token.now) (plain_lens c.in-ok-n.n) (sym c.in-ok-n.ensures) in
-    writes_made _ c.args.out.now _ _ z.good (omega (arith, z.token)) c.put-targ.ensures
+    let z = targ_sizes (plain_targ c.args.token.now) (plain_lens c.in_ok-n.n) (sym c.in_ok-n.ensures) in
+    writes_made _ c.args.out.now _ _ z.good (omega (arith, z.token)) c.put_targ.ensures

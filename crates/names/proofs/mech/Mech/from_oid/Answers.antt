@@ -7,7 +7,7 @@ use Rattle.names.proofs.mech.Mech.from_oid.Goals as goal
 pub returns : goal.returns
 returns c =
     record {
-      answer = c.first-named.ensures;
-      back = λ m h. found mech_oid (Spnego ∷ MsKrb5 ∷ Krb5 ∷ Ntlm ∷ []) c.args.oid.now m (sym c.first-named.ensures ∙ h);
-      found = λ m h. c.first-named.ensures ∙ (ap mech_of h ∙ mech_back m);
+      answer = c.first_named.ensures;
+      back = λ m h. found mech_oid (Spnego ∷ MsKrb5 ∷ Krb5 ∷ Ntlm ∷ []) c.args.oid.now m (sym c.first_named.ensures ∙ h);
+      found = λ m h. c.first_named.ensures ∙ (ap mech_of h ∙ mech_back m);
     }

@@ -7,7 +7,7 @@ use Rattle.names.proofs.neg_state.NegState.from_bytes.Goals as goal
 pub returns : goal.returns
 returns c =
     record {
-      answer = c.first-named.ensures;
-      back = λ s h. found state_bytes (Complete ∷ Incomplete ∷ Reject ∷ RequestMic ∷ []) c.args.bytes.now s (sym c.first-named.ensures ∙ h);
-      found = λ s h. c.first-named.ensures ∙ (ap state_of h ∙ state_back s);
+      answer = c.first_named.ensures;
+      back = λ s h. found state_bytes (Complete ∷ Incomplete ∷ Reject ∷ RequestMic ∷ []) c.args.bytes.now s (sym c.first_named.ensures ∙ h);
+      found = λ s h. c.first_named.ensures ∙ (ap state_of h ∙ state_back s);
     }

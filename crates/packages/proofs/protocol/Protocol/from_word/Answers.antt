@@ -15,6 +15,6 @@ pub returns-in-PKU2U : goal.returns-in-PKU2U
 unfolding protocol_of
 returns-in-PKU2U c = search rules
 
-pub returns-in-default : goal.returns-in-default
+pub returns-in_default : goal.returns-in_default
 unfolding protocol_of
-returns-in-default c = search (rules, bytes_eq-Decides)
+returns-in_default c = search (rules, bytes_eq-Decides)

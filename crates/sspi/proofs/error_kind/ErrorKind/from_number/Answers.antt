@@ -5,4 +5,4 @@ use Rattle.sspi.proofs.error_kind.ErrorKind.from_number.Goals as goal
 
 pub returns : goal.returns
 returns c =
-    record { answer = c.first-with.ensures; back = λ k h. found kind_number kinds c.args.n k (sym c.first-with.ensures ∙ h) }
+    record { answer = c.first_with.ensures; back = λ k h. found kind_number kinds c.args.n k (sym c.first_with.ensures ∙ h) }
