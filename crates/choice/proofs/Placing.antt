@@ -1,11 +1,8 @@
 -- Walking a list of mechanisms to the first place of an object identifier, and the mechanisms in order of preference.
-use Rattle.std.proofs.Common.{◌≡◌, ℕ, ◌+◌, ◌<◌, ◌≤◌, Bool, true, false, cond, List, [], ◌∷◌, length, get_or, drop, Some, None, Ok, Err, Decides, Option, Result, sym, refl, ap, ◌∙◌, subst, arith}
-use Rattle.std.specs.Cmp.Lexicographic.{Matches}
+use Rattle.std.proofs.Common.{◌≡◌, ℕ, ◌+◌, ◌<◌, ◌≤◌, Bool, true, false, cond, List, [], ◌∷◌, length, get_or, drop, Some, None, Ok, Err, Option, Result, sym, refl, ap, ◌∙◌, subst, arith}
 use Rattle.std.specs.Result.{result_ok}
 use Rattle.std.specs.Str.{bytes_eq}
 use Rattle.std.proofs.lemmas.List.{at_drop_more, at_drop_all}
-use Rattle.std.proofs.lemmas.Slice.Eq.{bytes_eq-Decides, slice_eq-Decides}
-use Rattle.std.proofs.lemmas.Bool.Decides.{same_from_decides, Decides-eqb}
 use Rattle.sspi.specs.declared.fault.Fault.{Fault}
 use Rattle.der.specs.Reading.{and_then}
 use Rattle.der.proofs.Taking.{both}
@@ -33,13 +30,13 @@ left_shorter xs o ys h = next_shorter xs (o, ys) (ok_part (next_of xs) (o, ys) (
 abbrev pub Walked : (oid : List ℕ) → Result Oids Fault → Result Oids Fault → ℕ → Type 0
 Walked oid listed rest i = (os : Oids) → listed ≡ Ok os → (qs : Oids) × (rest ≡ Ok qs) × (place_from i oid qs ≡ place_of oid os)
 
-place_at : (i : ℕ) (oid o : List ℕ) (qs : Oids) (r t : Bool) → Matches (λ (a b : ℕ) (u : Bool). Decides u (a ≡ b)) o oid r → r ≡ t
+place_at : (i : ℕ) (oid o : List ℕ) (qs : Oids) (r t : Bool) → r ≡ bytes_eq o oid → r ≡ t
     → place_from i oid (o ∷ qs) ≡ cond t (Some i) (place_from (i + 1) oid qs)
 place_at i oid o qs r t m h =
-    ap (λ b. cond b (Some i) (place_from (i + 1) oid qs)) (same_from_decides (bytes_eq o oid) r (bytes_eq-Decides o oid) (slice_eq-Decides Decides-eqb o oid r m) ∙ h)
+    ap (λ b. cond b (Some i) (place_from (i + 1) oid qs)) (sym m ∙ h)
 
 -- one more: it is the one that is looked for just if t says so
-pub walked_at : (oid : List ℕ) (listed rest others : Result Oids Fault) (o : List ℕ) (i : ℕ) (r t : Bool) → Matches (λ (a b : ℕ) (u : Bool). Decides u (a ≡ b)) o oid r → r ≡ t
+pub walked_at : (oid : List ℕ) (listed rest others : Result Oids Fault) (o : List ℕ) (i : ℕ) (r t : Bool) → r ≡ bytes_eq o oid → r ≡ t
     → ((os : Oids) → rest ≡ Ok os → before o others ≡ Ok os) → Walked oid listed rest i
     → (os : Oids) → listed ≡ Ok os → (qs : Oids) × (others ≡ Ok qs) × (cond t (Some i) (place_from (i + 1) oid qs) ≡ place_of oid os)
 walked_at oid listed rest others o i r t m h walks w os e =

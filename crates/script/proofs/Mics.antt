@@ -1,22 +1,15 @@
 -- The MIC of a script: made in a buffer, and told from every other.
-use Rattle.std.proofs.Common.{◌≡◌, ℕ, ◌+◌, ◌-◌, ◌<◌, ◌≤◌, Bool, true, false, ◌&&◌, eqb, List, [], ◌∷◌, ◌++◌, length, get_or, take, drop, set, Decides, sym, refl, ap, ◌∙◌, subst, arith}
+use Rattle.std.proofs.Common.{◌≡◌, ℕ, ◌+◌, ◌-◌, ◌<◌, ◌≤◌, Bool, true, false, ◌&&◌, eqb, List, [], ◌∷◌, ◌++◌, length, get_or, take, drop, set, sym, refl, ap, ◌∙◌, arith}
 use borrow.Rule.Slice.PartMut.{put_mid}
-use Rattle.std.specs.Cmp.Lexicographic.{Matches}
 use Rattle.std.specs.Str.{bytes_eq}
-use Rattle.std.proofs.lemmas.Slice.Eq.{bytes_eq-Decides, slice_eq-Decides}
 use Rattle.std.proofs.lemmas.List.{take_rest, drop-set-lt}
 use Rattle.std.proofs.lemmas.Slice.{take-put_mid, drop-put_mid}
 use Rattle.std.proofs.lemmas.Bool.{eq-eqb}
-use Rattle.std.proofs.lemmas.Bool.Decides.{same_from_decides, Decides-eqb}
 use Rattle.script.specs.Plays.{mic_of}
 
-pub takes_at : (d m : List ℕ) (r : Bool) → get_or m 0 0 ≡ 0x53 → Matches (λ (a b : ℕ) (u : Bool). Decides u (a ≡ b)) d (take (length m - 1) (drop 1 m)) r → r ≡ bytes_eq (mic_of d) m
+pub takes_at : (d m : List ℕ) (r : Bool) → get_or m 0 0 ≡ 0x53 → r ≡ bytes_eq d (take (length m - 1) (drop 1 m)) → r ≡ bytes_eq (mic_of d) m
 takes_at d [] r e h = absurd (omega arith)
-takes_at d (x ∷ m) r e h =
-    let D : List ℕ → Type 0 = λ v. Decides r (d ≡ v) in
-    let rest = subst D (take_rest (x ∷ m) 1) (slice_eq-Decides Decides-eqb d (take (length (x ∷ m) - 1) (drop 1 (x ∷ m))) r h) in
-    same_from_decides r (bytes_eq d m) rest (bytes_eq-Decides d m)
-    ∙ sym (ap (λ b. b && bytes_eq d m) (eq-eqb 0x53 x (sym e)))
+takes_at d (x ∷ m) r e h = h ∙ (ap (bytes_eq d) (take_rest (x ∷ m) 1) ∙ sym (ap (λ b. b && bytes_eq d m) (eq-eqb 0x53 x (sym e))))
 
 -- the buffer once the first byte and the data behind it are written
 pub made_front : (m d y : List ℕ) → y ≡ d → 0 < length m → take (length d + 1) (put_mid 1 (length d + 1 - 1) (set m 0 0x53) y) ≡ mic_of d

@@ -7,8 +7,8 @@ pub returns-then-entry-gt64 : goal.returns-then-entry-gt64
 returns-then-entry-gt64 c =
     sym (short_long (book_bytes c.args.book.now) c.loop-i.i _ c.requires (omega arith) c.in-Some.ensures.answer c.if-entry-gt64.true) ∙ c.loop-i.invariant
 
-pub returns-in-default : goal.returns-in-default
-returns-in-default c = absurd (short_there (book_bytes c.args.book.now) c.loop-i.i c.requires (omega arith) c.in-default.ensures.answer)
+pub returns-in_default : goal.returns-in_default
+returns-in_default c = absurd (short_there (book_bytes c.args.book.now) c.loop-i.i c.requires (omega arith) c.in_default.ensures.answer)
 
 pub loop-i-preserved : goal.loop-i-preserved
 loop-i-preserved c =

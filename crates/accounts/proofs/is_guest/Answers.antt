@@ -3,4 +3,4 @@ use Rattle.accounts.proofs.is_guest.Goals as goal
 
 pub returns : goal.returns
 unfolding is_guest
-returns c = c.eq-ignore-ascii-case.ensures
+returns c = c.eq_ignore_ascii_case.ensures

@@ -3,4 +3,4 @@ use Rattle.accounts.proofs.same_account.Goals as goal
 
 pub returns : goal.returns
 unfolding same_account
-returns c = c.eq-ignore-ascii-case.ensures
+returns c = c.eq_ignore_ascii_case.ensures

@@ -4,4 +4,4 @@ use Rattle.generators.proofs.Sizes.{next_sent}
 use Rattle.generators.proofs.generate_neg_token_targ_1.Goals as goal
 
 pub returns : goal.returns
-returns c = next_sent (seen c.args.response-token) c.args.out.now c.write-targ.new.out c.write-targ.result (search rules)
+returns c = next_sent (seen c.args.response_token) c.args.out.now c.write_targ.new.out c.write_targ.result (search rules)

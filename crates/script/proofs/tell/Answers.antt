@@ -4,10 +4,10 @@ use Rattle.script.proofs.tell.Goals as goal
 
 pub returns-in-Some : goal.returns-in-Some
 returns-in-Some c =
-    ap (λ t. Ok (c.in-Some.status, t)) c.split-at.ensures.back
-    ∙ told_at c.args.entry.now c.number-of-number.result _ _ c.if-entry-lt4.false c.number-of-number.ensures (sym c.in-Some.is ∙ c.from-number.ensures.answer) refl
+    ap (λ t. Ok (c.in-Some.status, t)) c.split_at.ensures.back
+    ∙ told_at c.args.entry.now c.number_of-number.result _ _ c.if-entry-lt4.false c.number_of-number.ensures (sym c.in-Some.is ∙ c.from_number.ensures.answer) refl
 
 pub returns-in-None : goal.returns-in-None
 returns-in-None c =
     ap Err c.refuse-in-None.ensures
-    ∙ told_at c.args.entry.now c.number-of-number.result _ _ c.if-entry-lt4.false c.number-of-number.ensures (sym c.in-None.is ∙ c.from-number.ensures.answer) c.fault-kind.ensures
+    ∙ told_at c.args.entry.now c.number_of-number.result _ _ c.if-entry-lt4.false c.number_of-number.ensures (sym c.in-None.is ∙ c.from_number.ensures.answer) c.fault_kind.ensures

@@ -8,20 +8,20 @@ returns-then-i-len c =
     let xs = account_bytes c.args.self.now in
     record { answer = account_past xs c.args.i (omega arith); listed = listed xs c.args.i }
 
-pub returns-in-err-name : goal.returns-in-err-name
-returns-in-err-name c =
+pub returns-in_err-name : goal.returns-in_err-name
+returns-in_err-name c =
     let xs = account_bytes c.args.self.now in
-    rw c.from-residual.ensures (record { answer = nameless xs c.args.i (omega arith) c.in-err-name.ensures.answer; listed = listed xs c.args.i })
+    rw c.from_residual.ensures (record { answer = nameless xs c.args.i (omega arith) c.in_err-name.ensures.answer; listed = listed xs c.args.i })
 
-pub returns-in-err-secret : goal.returns-in-err-secret
-returns-in-err-secret c =
+pub returns-in_err-secret : goal.returns-in_err-secret
+returns-in_err-secret c =
     let xs = account_bytes c.args.self.now in
-    rw c.from-residual-in-err-secret.ensures (record { answer = secretless xs c.args.i (omega arith) c.in-err-secret.ensures.answer; listed = listed xs c.args.i })
+    rw c.from_residual-in_err-secret.ensures (record { answer = secretless xs c.args.i (omega arith) c.in_err-secret.ensures.answer; listed = listed xs c.args.i })
 
 pub returns : goal.returns
 returns c =
     let xs = account_bytes c.args.self.now in
     record {
-      answer = account_here xs c.args.i _ _ (omega arith) c.in-ok-name.ensures.answer c.in-ok-secret.ensures.answer;
+      answer = account_here xs c.args.i _ _ (omega arith) c.in_ok-name.ensures.answer c.in_ok-secret.ensures.answer;
       listed = listed xs c.args.i;
     }

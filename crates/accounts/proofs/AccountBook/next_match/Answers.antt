@@ -4,12 +4,12 @@ use Rattle.accounts.specs.Views.{account_bytes}
 use Rattle.accounts.proofs.Walking.{match_here, match_more, match_none, first_walked, exact}
 use Rattle.accounts.proofs.AccountBook.next_match.Goals as goal
 
-pub returns-then-is-named : goal.returns-then-is-named
+pub returns-then-is_named : goal.returns-then-is_named
 unfolding account_count
-returns-then-is-named c =
+returns-then-is_named c =
     let xs = account_bytes c.args.self.now in
     let l : c.loop-i.i < account_count xs = omega arith in
-    let w = match_here c.args.name.now xs c.args.from c.loop-i.i c.loop-i.invariant l c.if-is-named.ensures in
+    let w = match_here c.args.name.now xs c.args.from c.loop-i.i c.loop-i.invariant l c.if-is_named.ensures in
     record {
       answer = first_walked c.args.name.now xs c.args.from (Some c.loop-i.i) w;
       walks = w;
@@ -20,7 +20,7 @@ returns-then-is-named c =
 pub loop-i-preserved : goal.loop-i-preserved
 unfolding account_count
 loop-i-preserved c =
-    match_more c.args.name.now (account_bytes c.args.self.now) c.args.from c.loop-i.i c.loop-i.invariant (omega arith) c.if-is-named.ensures
+    match_more c.args.name.now (account_bytes c.args.self.now) c.args.from c.loop-i.i c.loop-i.invariant (omega arith) c.if-is_named.ensures
 
 pub returns : goal.returns
 unfolding account_count

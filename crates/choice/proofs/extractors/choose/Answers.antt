@@ -9,7 +9,7 @@ returns-in-Some c os h =
 
 pub loop-mech-preserved : goal.loop-mech-preserved
 loop-mech-preserved c os h =
-    sym (chosen_at c.args.mechs.now c.loop-mech.mech-index _ os c.args.enabled c.args.running _ c.loop-mech-test.true (c.in-default.ensures os h)) ∙ c.loop-mech.invariant os h
+    sym (chosen_at c.args.mechs.now c.loop-mech.mech-index _ os c.args.enabled c.args.running _ c.loop-mech-test.true (c.in_default.ensures os h)) ∙ c.loop-mech.invariant os h
 
 pub returns : goal.returns
 returns c os h = sym (chosen_end c.args.mechs.now c.loop-mech.mech-index os c.args.enabled c.args.running c.loop-mech-test.false) ∙ c.loop-mech.invariant os h

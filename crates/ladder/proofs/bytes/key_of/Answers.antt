@@ -3,4 +3,4 @@ use Rattle.ladder.proofs.Paddings.{padded-put}
 use Rattle.ladder.proofs.bytes.key_of.Goals as goal
 
 pub returns : goal.returns
-returns c = padded-put 8 (c.at-most-len.result - 0) c.args.secret.now c.copy-from-slice.new.self (omega arith) c.copy-from-slice.ensures.after
+returns c = padded-put 8 (c.at_most-len.result - 0) c.args.secret.now c.copy_from_slice.new.self (omega arith) c.copy_from_slice.ensures.after

@@ -15,8 +15,8 @@ returns-then-self-len c =
 pub returns-in-Some : goal.returns-in-Some
 returns-in-Some c =
     record {
-      next = moved c.args.self.now c.move-on.new.self c.in-Some.entry.now c.play-answer.new.work (length c.args.work.now) c.play-answer.result
-          c.in-Some.ensures.answer c.play-answer.ensures.answer c.move-on.ensures;
+      next = moved c.args.self.now c.move_on.new.self c.in-Some.entry.now c.play-answer.new.work (length c.args.work.now) c.play-answer.result
+          c.in-Some.ensures.answer c.play-answer.ensures.answer c.move_on.ensures;
       answer = told c.args.self.now c.in-Some.entry.now (length c.args.work.now) _ c.in-Some.ensures.answer c.play-answer.ensures.answer;
       within = c.play-answer.ensures.within;
     }

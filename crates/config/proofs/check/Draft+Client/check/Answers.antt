@@ -8,12 +8,12 @@ pub returns : goal.returns
 unfolding checked
 returns c =
     let word = c.args.word.now in
-    let o = parsed (seen c.args.package-list) in
-    let r = c.check-role.result in
-    let e : drafted r ≡ planned true word o 16384 = with_list true word c.parse.result o 16384 (drafted r) c.parse.ensures.answer c.check-role.ensures in
+    let o = parsed (seen c.args.package_list) in
+    let r = c.check_role.result in
+    let e : drafted r ≡ planned true word o 16384 = with_list true word c.parse.result o 16384 (drafted r) c.parse.ensures.answer c.check_role.ensures in
     record {
       answer = e;
-      as-listed = λ p h. plan_open true word o 16384 p (sym e ∙ h);
+      as_listed = λ p h. plan_open true word o 16384 p (sym e ∙ h);
       some = λ p h. drafted_some r p h;
       made = drafted_made r (planned true word o 16384) e ∙ client_made word o 16384;
     }
