@@ -14,8 +14,25 @@ WORD = re.compile(r"(?<![\w'-])\.?[A-Za-z_][\w']*(?:-[\w'*≤<]+)*")
 HEAD = re.compile(r"^(?:abbrev |unfoldable )?(?:pub )?(?:abbrev |unfoldable )?(record |data )?([A-Za-z_][^\s:(){}]*)\s+(?:[({].*)?:\s*(.*)$")
 FIELD = re.compile(r"^  (?:pub )?([a-z][\w'-]*) :")
 LIBRARY = {"length", "take", "drop", "append", "replicate", "set", "eqb", "leb", "ltb", "cond", "min", "slice_get"}
-# where the rule gives a name that is taken beside it
+# where the rule gives a name that is taken beside it, or takes a plain word for a definition
 BY_HAND = {
+    "entry-inside": "entry_inside",
+    "choice-refused": "choice_refused",
+    "header-short": "header_short",
+    "header-length": "header_length",
+    "refused-element": "refused_element",
+    "arcs-inside": "arcs_inside",
+    "refused-optional": "refused_optional",
+    "refused-take": "refused_take",
+    "short-header": "short_header",
+    "padded-put": "padded_put",
+    "padded-whole": "padded_whole",
+    "oids-refused": "oids_refused",
+    "starts-front": "starts_front",
+    "refused-field": "refused_field",
+    "refused-sequence": "refused_sequence",
+    "short-field": "short_field",
+    "pieces-cut": "pieces_cut",
     "answer_at": "answer_at_lem",
     "fields_read": "fields_read_lem",
     "list_read": "list_read_lem",

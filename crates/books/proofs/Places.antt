@@ -150,9 +150,9 @@ pub entry_outside : (xs : List ℕ) (i : ℕ) → length xs < end_of xs i → No
 unfolding entry_at
 entry_outside xs i l = sym (cond-false (ltb i (count_of xs) && leb (end_of xs i) (length xs)) _ _ (and_right (ltb i (count_of xs)) _ (lt-leb (end_of xs i) (length xs) l)))
 
-pub entry-inside : (xs : List ℕ) (i at n : ℕ) → at ≡ offset_of xs i → n ≡ length_of xs i → i < count_of xs → at + n ≤ length xs → Some (take ((at + n) - at) (drop at xs)) ≡ entry_at xs i
+pub entry_inside : (xs : List ℕ) (i at n : ℕ) → at ≡ offset_of xs i → n ≡ length_of xs i → i < count_of xs → at + n ≤ length xs → Some (take ((at + n) - at) (drop at xs)) ≡ entry_at xs i
 unfolding entry_at
-entry-inside xs i at n p q l k =
+entry_inside xs i at n p q l k =
     let e : (at + n) - at ≡ n = omega arith in
     let m : end_of xs i ≤ length xs = omega arith in
     ap (λ v. Some (take v (drop at xs))) (e ∙ q) ∙ (ap (λ v. Some (take (length_of xs i) (drop v xs))) p

@@ -128,9 +128,9 @@ pub choice_means : (list : List ℕ) (on : PackageListConfig) (running : Protoco
 unfolding choice
 choice_means list on running r e os h = chosen_means os on running r (e ∙ ap (λ v. and_then v (λ ps. chosen ps on running)) h)
 
-pub choice-refused : (list : List ℕ) (on : PackageListConfig) (running : Protocol) (e : Fault) → Err e ≡ read_mech_type_list list → Err e ≡ choice list on running
+pub choice_refused : (list : List ℕ) (on : PackageListConfig) (running : Protocol) (e : Fault) → Err e ≡ read_mech_type_list list → Err e ≡ choice list on running
 unfolding choice
-choice-refused list on running e h = ap (λ v. and_then v (λ ps. chosen ps on running)) h
+choice_refused list on running e h = ap (λ v. and_then v (λ ps. chosen ps on running)) h
 
 -- a result that is no refusal holds something
 ok_of : {X : Type 0} (r : Result X Fault) → true ≡ is_ok r → (x : X) × (r ≡ Ok x)

@@ -30,9 +30,9 @@ len_one n h k = simp (le-ltb n 128 h, lt-ltb n 256 k)
 len_two : (n : ℕ) → 256 ≤ n → length_bytes n ≡ 130 ∷ n / 256 ∷ n % 256 ∷ []
 len_two n k = let h : 128 ≤ n = omega arith in simp (le-ltb n 128 h, le-ltb n 256 k)
 
-pub header-short : (t n : ℕ) → n < 128 → header t n ≡ t ∷ n ∷ []
+pub header_short : (t n : ℕ) → n < 128 → header t n ≡ t ∷ n ∷ []
 unfolding header
-header-short t n h = ap (λ ls. t ∷ ls) (len_short n h)
+header_short t n h = ap (λ ls. t ∷ ls) (len_short n h)
 
 pub header_one : (t n : ℕ) → 128 ≤ n → n < 256 → header t n ≡ t ∷ 129 ∷ n ∷ []
 unfolding header

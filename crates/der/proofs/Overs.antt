@@ -59,16 +59,16 @@ puts_refused e r out a mid b after at p fits =
     absurd (err_ok e (at + length a) (p (omega (arith, fits))).0)
 
 -- an element's length, computed before it is written
-header-length : (t u n : ℕ) → length (header t n) ≡ length (header u n)
+header_length : (t u n : ℕ) → length (header t n) ≡ length (header u n)
 unfolding header
-header-length t u n = refl
+header_length t u n = refl
 
 pub element_size : (t m : ℕ) (c : List ℕ) → element_len (length c) ≡ Ok m → (length c < 65536) × (length (element t c) ≡ m)
 unfolding element
 element_size t m c r =
     let p = let_through (ltb (length c) 65536) invalid (Ok (length (header 0 (length c)) + length c)) m r in
     let e : length (header 0 (length c)) + length c ≡ m = cc p.1 in
-    (ltb-true (length c) 65536 p.0, length-append (header t (length c)) c ∙ (ap (λ k. k + length c) (header-length t 0 (length c)) ∙ e))
+    (ltb-true (length c) 65536 p.0, length-append (header t (length c)) c ∙ (ap (λ k. k + length c) (header_length t 0 (length c)) ∙ e))
 
 -- what is owed of a writing that fits, and of one that does not
 pub fits_if : (n at : ℕ) (r : Result ℕ Fault) (out bytes after : List ℕ) → n < 65536 → at + length bytes ≤ length out → Puts r out at bytes after
@@ -85,14 +85,14 @@ pub puts_element : (r : Result ℕ Fault) (out mid after c : List ℕ) (at next 
 unfolding element
 puts_element r out mid after c at next t p q = puts_puts r out (header t (length c)) mid c after at next p q
 
-pub refused-element : (e : Fault) (r : Result ℕ Fault) (out mid after c : List ℕ) (at t : ℕ) → Puts (Err e) out at (header t (length c)) mid → Puts r out at (element t c) after
+pub refused_element : (e : Fault) (r : Result ℕ Fault) (out mid after c : List ℕ) (at t : ℕ) → Puts (Err e) out at (header t (length c)) mid → Puts r out at (element t c) after
 unfolding element
-refused-element e r out mid after c at t p = puts_refused e r out (header t (length c)) mid c after at p
+refused_element e r out mid after c at t p = puts_refused e r out (header t (length c)) mid c after at p
 
 pub element_len_lem : (t : ℕ) (c : List ℕ) → length c < 65536 → element_len (length c) ≡ Ok (length (element t c))
 unfolding element
 element_len_lem t c l =
-    cond-true (ltb (length c) 65536) _ _ (lt-ltb (length c) 65536 l) ∙ ap Ok (ap (λ k. k + length c) (header-length 0 t (length c)) ∙ sym (length-append (header t (length c)) c))
+    cond-true (ltb (length c) 65536) _ _ (lt-ltb (length c) 65536 l) ∙ ap Ok (ap (λ k. k + length c) (header_length 0 t (length c)) ∙ sym (length-append (header t (length c)) c))
 
 -- a header has at most four bytes
 pub header_bound : (t n : ℕ) → length (header t n) ≤ 4

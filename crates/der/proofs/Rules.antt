@@ -25,8 +25,8 @@ arcs_at begins xs i l = at_drop_more (arcs begins) xs i 0 l
 pub arcs_stop : (begins : Bool) (xs : List ℕ) (i : ℕ) → i < length xs → begins ≡ true → get_or xs i 0 ≡ 0x80 → arcs begins (drop i xs) ≡ false
 arcs_stop begins xs i l h e = arcs_at begins xs i l ∙ simp (h, e)
 
-pub arcs-inside : (begins : Bool) (xs : List ℕ) (i : ℕ) → i < length xs → begins ≡ false → arcs begins (drop i xs) ≡ arcs (ltb (get_or xs i 0) 0x80) (drop (i + 1) xs)
-arcs-inside begins xs i l h = arcs_at begins xs i l ∙ simp h
+pub arcs_inside : (begins : Bool) (xs : List ℕ) (i : ℕ) → i < length xs → begins ≡ false → arcs begins (drop i xs) ≡ arcs (ltb (get_or xs i 0) 0x80) (drop (i + 1) xs)
+arcs_inside begins xs i l h = arcs_at begins xs i l ∙ simp h
 
 pub arcs_begin : (begins : Bool) (xs : List ℕ) (i : ℕ) → i < length xs → begins ≡ true → (get_or xs i 0 ≡ 0x80 → ⊥)
     → arcs begins (drop i xs) ≡ arcs (ltb (get_or xs i 0) 0x80) (drop (i + 1) xs)

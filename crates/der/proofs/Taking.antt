@@ -119,8 +119,8 @@ one_element_lem xs h =
     (x.0, x.1, f.0 ∙ simp w.2 (append-nil (element x.0 x.1)), f.1, f.2)
 
 -- whatever is refused is refused as an illegal token
-pub refused-take : (xs : List ℕ) → Only illegal (take_of xs)
-refused-take xs =
+pub refused_take : (xs : List ℕ) → Only illegal (take_of xs)
+refused_take xs =
     only_then illegal (head_of xs) cut
     (only_cond illegal (ltb (length xs) 2) _ _ refl
     (only_cond illegal (ltb (get_or xs 1 0) 128) _ _ tt
@@ -133,7 +133,7 @@ refused-take xs =
     (λ h. only_cond illegal (not (tag h.0) || ltb (length h.2) h.1) _ _ refl tt)
 
 pub refused_only : (t : ℕ) (xs : List ℕ) → Only illegal (only_of t xs)
-refused_only t xs = only_then illegal (take_of xs) _ (refused-take xs) (λ x. only_cond illegal (eqb x.0 t && eqb (length x.2) 0) _ _ tt refl)
+refused_only t xs = only_then illegal (take_of xs) _ (refused_take xs) (λ x. only_cond illegal (eqb x.0 t && eqb (length x.2) 0) _ _ tt refl)
 
-pub refused-optional : (t : ℕ) (xs : List ℕ) → Only illegal (optional_of t xs)
-refused-optional t xs = only_cond illegal (begins t xs) _ _ (only_then illegal (take_of xs) _ (refused-take xs) (λ x. tt)) tt
+pub refused_optional : (t : ℕ) (xs : List ℕ) → Only illegal (optional_of t xs)
+refused_optional t xs = only_cond illegal (begins t xs) _ _ (only_then illegal (take_of xs) _ (refused_take xs) (λ x. tt)) tt

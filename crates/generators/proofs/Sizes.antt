@@ -17,12 +17,12 @@ use Rattle.spnego.specs.declared.part.Kind.TheVariants.{Element, MechTypes, Oid,
 use Rattle.generators.specs.Sending.{first_token, first_reply, final_token, next_token, size_of, Sends, InitSent, TargSent}
 
 -- elements: the header has two bytes before a content of less than 128, and never more than four
-short-header : (t n : ℕ) → n < 128 → length (header t n) ≡ 2
+short_header : (t n : ℕ) → n < 128 → length (header t n) ≡ 2
 unfolding header
-short-header t n l = ap (λ b. length (t ∷ b)) (cond-true (ltb n 128) _ _ (lt-ltb n 128 l))
+short_header t n l = ap (λ b. length (t ∷ b)) (cond-true (ltb n 128) _ _ (lt-ltb n 128 l))
 
 small : (t : ℕ) (c : List ℕ) → length c < 128 → length (element t c) ≡ length c + 2
-small t c l = let e = length-element t c in let h = short-header t (length c) l in omega arith
+small t c l = let e = length-element t c in let h = short_header t (length c) l in omega arith
 
 large : (t : ℕ) (c : List ℕ) → length (element t c) ≤ length c + 4
 large t c = let e = length-element t c in let h = header_bound t (length c) in omega arith

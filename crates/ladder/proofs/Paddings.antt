@@ -9,9 +9,9 @@ use Rattle.std.proofs.lemmas.List.{append-nil, take_all, drop-replicate}
 use Rattle.std.proofs.lemmas.Bool.{cases_lt}
 
 -- what has the length already stays
-pub padded-whole : (n : ℕ) (xs : List ℕ) → length xs ≡ n → padded n xs ≡ xs
+pub padded_whole : (n : ℕ) (xs : List ℕ) → length xs ≡ n → padded n xs ≡ xs
 unfolding padded
-padded-whole n xs e =
+padded_whole n xs e =
     let z : n - length xs ≡ 0 = omega arith in
     ap (λ k. take n xs ++ replicate k 0) z ∙ (append-nil (take n xs) ∙ take_all n xs (omega arith))
 
@@ -27,17 +27,17 @@ over_zeros n k xs ys f h =
     ap (λ zs. ys ++ zs) (drop-replicate k n 0) ∙ (ap (λ zs. zs ++ replicate (n - k) 0) f ∙ ap (λ j. take n xs ++ replicate j 0) h)
 
 -- as many as there are, written over zeros
-pub padded-put : (n k : ℕ) (xs ys : List ℕ) → k ≡ min (length xs) n → ys ≡ take k xs → ys ++ drop k (replicate n 0) ≡ padded n xs
+pub padded_put : (n k : ℕ) (xs ys : List ℕ) → k ≡ min (length xs) n → ys ≡ take k xs → ys ++ drop k (replicate n 0) ≡ padded n xs
 unfolding padded
-padded-put n k xs ys e f = over_zeros n k xs ys (f ∙ take_min n k xs e) (omega arith)
+padded_put n k xs ys e f = over_zeros n k xs ys (f ∙ take_min n k xs e) (omega arith)
 
 -- the keys that a ladder holds are whole
 pub key_client : (s : Ladder) (by : Side) → by ≡ Client → length s.client_key ≡ 8 → s.client_key ≡ key_for s by
-key_client s by e l = sym (ap (key_for s) e ∙ padded-whole 8 s.client_key l)
+key_client s by e l = sym (ap (key_for s) e ∙ padded_whole 8 s.client_key l)
 
 pub key_allowed : (s : Ladder) (by : Side) → by ≡ Server → s.allowed ≡ true → length s.allowed_key ≡ 8 → s.allowed_key ≡ key_for s by
 key_allowed s by e a l =
-    sym (ap (key_for s) e ∙ (ap (λ b. key_of (cond b s.allowed_key [])) a ∙ padded-whole 8 s.allowed_key l))
+    sym (ap (key_for s) e ∙ (ap (λ b. key_of (cond b s.allowed_key [])) a ∙ padded_whole 8 s.allowed_key l))
 
 pub key_none : (s : Ladder) (by : Side) → by ≡ Server → s.allowed ≡ false → replicate 8 0 ≡ key_for s by
 unfolding padded

@@ -8,7 +8,7 @@ use Rattle.der.specs.Promises.{Exact}
 use Rattle.der.specs.Reading.{illegal, and_then, Taken, take_of, only_of}
 use Rattle.der.proofs.Promised.{exact_from}
 use Rattle.der.proofs.Ways.{err_ok, ways, let_through, Only, only_then, only_cond}
-use Rattle.der.proofs.Taking.{both, length-element, take_written, take_read, only_written, only_read, refused-take, refused_only}
+use Rattle.der.proofs.Taking.{both, length-element, take_written, take_read, only_written, only_read, refused_take, refused_only}
 use Rattle.mech_types.specs.Lists.{oids, mech_type_list, all_oids, GoodList}
 use Rattle.mech_types.specs.Reading.{next_of, before, oids_up_to, oids_of, read_mech_type_list}
 
@@ -67,8 +67,8 @@ oids_more xs y r =
     let n : ℕ = length xs - 1 in
     some_oids n xs (omega arith) ∙ (ap (λ v. and_then v (λ x. before x.0 (oids_up_to n x.1))) r ∙ ap (before y.0) (fuel n (length y.1) y.1 (omega arith) (omega arith)))
 
-pub oids-refused : (xs : List ℕ) (e : Fault) → (length xs ≡ 0 → ⊥) → next_of xs ≡ Err e → oids_of xs ≡ Err e
-oids-refused xs e l r =
+pub oids_refused : (xs : List ℕ) (e : Fault) → (length xs ≡ 0 → ⊥) → next_of xs ≡ Err e → oids_of xs ≡ Err e
+oids_refused xs e l r =
     let n : ℕ = length xs - 1 in
     some_oids n xs (omega arith) ∙ ap (λ v. and_then v (λ x. before x.0 (oids_up_to n x.1))) r
 
@@ -145,18 +145,18 @@ list_read_lem xs os r =
 -- a legal list ends where no object identifier is left
 pub oids_end : (xs : List ℕ) (e : Fault) → next_of xs ≡ Err e → (os : List (List ℕ)) → oids_of xs ≡ Ok os → ◌≡◌ {A = Result (List (List ℕ)) Fault} (Ok []) (Ok os)
 oids_end xs e r os h =
-    ⊎_elim (λ z. sym (oids_none xs z) ∙ h) (λ z. absurd (err_ok e os (sym (oids-refused xs e z r) ∙ h))) (cases_eq (length xs) 0)
+    ⊎_elim (λ z. sym (oids_none xs z) ∙ h) (λ z. absurd (err_ok e os (sym (oids_refused xs e z r) ∙ h))) (cases_eq (length xs) 0)
 
 -- where the loop leaves: at a refusal, and at the end
 pub verdict_refused : (xs : List ℕ) (e : Fault) → false ≡ eqb (length xs) 0 → next_of xs ≡ Err e → verdict (oids_of xs) ≡ Err e
-verdict_refused xs e l r = ap verdict (oids-refused xs e (eqb-false (length xs) 0 (sym l)) r)
+verdict_refused xs e l r = ap verdict (oids_refused xs e (eqb-false (length xs) 0 (sym l)) r)
 
 pub verdict_all : (xs : List ℕ) → true ≡ eqb (length xs) 0 → verdict (oids_of xs) ≡ Ok 0
 verdict_all xs l = ap verdict (oids_none xs (eqb-true (length xs) 0 (sym l)))
 
 -- whatever is refused is refused as an illegal token
 pub refused_next : (xs : List ℕ) → Only illegal (next_of xs)
-refused_next xs = only_then illegal (take_of xs) _ (refused-take xs) (λ x. only_cond illegal (eqb x.0 0x06 && oid x.1) _ _ tt refl)
+refused_next xs = only_then illegal (take_of xs) _ (refused_take xs) (λ x. only_cond illegal (eqb x.0 0x06 && oid x.1) _ _ tt refl)
 
 refused_up_to : (n : ℕ) (xs : List ℕ) → Only illegal (oids_up_to n xs)
 unfolding oids_up_to

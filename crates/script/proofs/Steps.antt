@@ -20,16 +20,16 @@ moves_front : (r : Result (SecurityStatus × ℕ) Fault) (b : List ℕ) → move
 moves_front (Ok x) b = refl
 moves_front (Err e) b = refl
 
-starts-front : (r : Result (SecurityStatus × ℕ) Fault) (b : List ℕ) → starts (step_front r b) ≡ starts r
-starts-front (Ok x) b = refl
-starts-front (Err e) b = refl
+starts_front : (r : Result (SecurityStatus × ℕ) Fault) (b : List ℕ) → starts (step_front r b) ≡ starts r
+starts_front (Ok x) b = refl
+starts_front (Err e) b = refl
 
 -- what an entry answers decides where the script stands afterwards
 pub moved : (s t : Script) (e b : List ℕ) (w : ℕ) (r : Result (SecurityStatus × ℕ) Fault) → Some e ≡ entry s → played e w ≡ step_front r b → t ≡ after s (moves_on r) (starts r) → t ≡ next_at s (entry s) w
 moved s t e b w r h p n =
     n
     ∙ (ap (λ v. after s v (starts r)) (sym (ap moves_on p ∙ moves_front r b))
-    ∙ (ap (λ v. after s (moves_on (played e w)) v) (sym (ap starts p ∙ starts-front r b)) ∙ ap (λ v. next_at s v w) h))
+    ∙ (ap (λ v. after s (moves_on (played e w)) v) (sym (ap starts p ∙ starts_front r b)) ∙ ap (λ v. next_at s v w) h))
 
 pub told : (s : Script) (e : List ℕ) (w : ℕ) (a : Answer) → Some e ≡ entry s → played e w ≡ a → answer_at (entry s) w ≡ a
 told s e w a h p = ap (λ v. answer_at v w) (sym h) ∙ p

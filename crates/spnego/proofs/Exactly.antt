@@ -5,7 +5,7 @@ use Rattle.der.specs.Promises.{Exact}
 use Rattle.der.specs.Reading.{illegal, only_of, optional_of}
 use Rattle.der.proofs.Promised.{exact_from}
 use Rattle.der.proofs.Ways.{Only, only_then, only_cond}
-use Rattle.der.proofs.Taking.{refused_only, refused-optional}
+use Rattle.der.proofs.Taking.{refused_only, refused_optional}
 use Rattle.mech_types.specs.Reading.{next_of}
 use Rattle.mech_types.proofs.Listing.{refused_next}
 use Rattle.spnego.specs.declared.part.Kind.{Kind}
@@ -28,21 +28,21 @@ refused_within : (k : Kind) (o : Option (List ℕ)) (rest : List ℕ) → Only i
 refused_within k None rest = tt
 refused_within k (Some content) rest = only_then illegal (inner_of k content) _ (refused_inner k content) (λ part. tt)
 
-refused-field : (t : ℕ) (k : Kind) (xs : List ℕ) → Only illegal (field_of t k xs)
-refused-field t k xs = only_then illegal (optional_of t xs) _ (refused-optional t xs) (λ y. refused_within k y.0 y.1)
+refused_field : (t : ℕ) (k : Kind) (xs : List ℕ) → Only illegal (field_of t k xs)
+refused_field t k xs = only_then illegal (optional_of t xs) _ (refused_optional t xs) (λ y. refused_within k y.0 y.1)
 
-refused-sequence : (k l : Kind) (xs : List ℕ) → Only illegal (sequence_of k l xs)
-refused-sequence k l xs =
+refused_sequence : (k l : Kind) (xs : List ℕ) → Only illegal (sequence_of k l xs)
+refused_sequence k l xs =
     only_then illegal (only_of 0x30 xs) (fields_of k l) (refused_only 0x30 xs) (λ s.
-    only_then illegal (field_of 0xA0 k s) _ (refused-field 0xA0 k s) (λ a.
-    only_then illegal (field_of 0xA1 l a.1) _ (refused-field 0xA1 l a.1) (λ b.
-    only_then illegal (field_of 0xA2 OctetString b.1) _ (refused-field 0xA2 OctetString b.1) (λ c.
-    only_then illegal (field_of 0xA3 OctetString c.1) _ (refused-field 0xA3 OctetString c.1) (λ d.
+    only_then illegal (field_of 0xA0 k s) _ (refused_field 0xA0 k s) (λ a.
+    only_then illegal (field_of 0xA1 l a.1) _ (refused_field 0xA1 l a.1) (λ b.
+    only_then illegal (field_of 0xA2 OctetString b.1) _ (refused_field 0xA2 OctetString b.1) (λ c.
+    only_then illegal (field_of 0xA3 OctetString c.1) _ (refused_field 0xA3 OctetString c.1) (λ d.
     only_cond illegal (eqb (length d.1) 0) _ _ tt refl)))))
 
 refused_targ : (xs : List ℕ) → Only illegal (read_targ xs)
 unfolding read_targ
-refused_targ xs = only_then illegal (only_of 0xA1 xs) _ (refused_only 0xA1 xs) (λ s. only_then illegal (sequence_of Element Oid s) _ (refused-sequence Element Oid s) (λ f. tt))
+refused_targ xs = only_then illegal (only_of 0xA1 xs) _ (refused_only 0xA1 xs) (λ s. only_then illegal (sequence_of Element Oid s) _ (refused_sequence Element Oid s) (λ f. tt))
 
 refused_init : (xs : List ℕ) → Only illegal (read_init xs)
 unfolding read_init
@@ -50,7 +50,7 @@ refused_init xs =
     only_then illegal (only_of 0x60 xs) _ (refused_only 0x60 xs) (λ content.
     only_then illegal (next_of content) _ (refused_next content) (λ m.
     only_then illegal (only_of 0xA0 m.1) _ (refused_only 0xA0 m.1) (λ s.
-    only_then illegal (sequence_of MechTypes BitString s) _ (refused-sequence MechTypes BitString s) (λ f. tt))))
+    only_then illegal (sequence_of MechTypes BitString s) _ (refused_sequence MechTypes BitString s) (λ f. tt))))
 
 pub exact_targ : (xs : List ℕ) → Exact TargWellFormed targ_bytes xs (read_targ xs)
 exact_targ = exact_from read_targ targ_written targ_read_lem refused_targ

@@ -78,14 +78,14 @@ within_read k (Some content) rest y r =
     let e : (Some b.0, rest) ≡ y = cc b.2 in
     subst (Within k (Some content) rest) e (ap Some f.0, refl, f.1)
 
-pub short-field : (t : ℕ) (k : Kind) (o : Option (List ℕ)) → length (field t k o) < 65536 → Short (option_map (inside k) o)
-short-field t k None l = tt
-short-field t k (Some part) l = let n = length-element t (inside k part) in omega arith
+pub short_field : (t : ℕ) (k : Kind) (o : Option (List ℕ)) → length (field t k o) < 65536 → Short (option_map (inside k) o)
+short_field t k None l = tt
+short_field t k (Some part) l = let n = length-element t (inside k part) in omega arith
 
 pub field_written : (t : ℕ) (k : Kind) (o : Option (List ℕ)) (rest : List ℕ) → tag t ≡ true → LegalField k o → length (field t k o) < 65536 → begins t rest ≡ false
     → field_of t k (field t k o ++ rest) ≡ Ok (o, rest)
 field_written t k o rest h f l b =
-    let s = short-field t k o l in
+    let s = short_field t k o l in
     ap (λ r. and_then r (λ y. within_of k y.0 y.1)) (optional_written t (option_map (inside k) o) rest h s b) ∙ within_written k o rest f s
 
 pub field_read : (t : ℕ) (k : Kind) (xs : List ℕ) (y : Field) → field_of t k xs ≡ Ok y → (xs ≡ field t k y.0 ++ y.1) × LegalField k y.0

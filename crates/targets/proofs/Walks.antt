@@ -4,7 +4,7 @@ use Rattle.std.specs.Option.{option_map}
 use Rattle.std.proofs.lemmas.Bool.{and_right}
 use Rattle.std.proofs.lemmas.Bool.Decides.{nat_tests}
 use Rattle.text.specs.Pieces.{pieces, behind, others, seen}
-use Rattle.text.proofs.Cuts.{pieces-cut, behind_shorter}
+use Rattle.text.proofs.Cuts.{pieces_cut, behind_shorter}
 use Rattle.targets.specs.Addresses.{decimal255, numbers, ipv4, hex_group, last_group, groups_in, groups}
 
 abbrev Rest : Type 0
@@ -67,8 +67,8 @@ from_none (Some m) = ap Some (omega arith)
 group_at : (dotted : Bool) (p xs : List ℕ) (t : Bool) → t ≡ hex_group p
     → groups_in dotted (p ∷ pieces 0x3A xs) ≡ cond t (option_map (λ m. 1 + m) (groups_in dotted (pieces 0x3A xs))) None
 group_at dotted p xs t h =
-    ap (λ v. groups_in dotted (p ∷ v)) (pieces-cut 0x3A xs)
-    ∙ (ap (λ v. cond (hex_group p) (option_map (λ m. 1 + m) (groups_in dotted v)) None) (sym (pieces-cut 0x3A xs))
+    ap (λ v. groups_in dotted (p ∷ v)) (pieces_cut 0x3A xs)
+    ∙ (ap (λ v. cond (hex_group p) (option_map (λ m. 1 + m) (groups_in dotted v)) None) (sym (pieces_cut 0x3A xs))
     ∙ ap (λ b. cond b (option_map (λ m. 1 + m) (groups_in dotted (pieces 0x3A xs))) None) (sym h))
 
 module _ (dotted : Bool) (n : ℕ) (tail : List ℕ) {p : List ℕ} {o : Option (Bor (List ℕ))} (w : pieces 0x3A tail ≡ p ∷ others 0x3A (seen o)) where

@@ -17,10 +17,10 @@ same_when xs ys false n = by (bytes_eq xs ys) refl
     by false e = refl
 
 -- the pieces are the text up to the first mark and the pieces of what stands behind it
-pub pieces-cut : (mark : ℕ) (xs : List ℕ) → pieces mark xs ≡ up_to mark xs ∷ others mark (behind mark xs)
+pub pieces_cut : (mark : ℕ) (xs : List ℕ) → pieces mark xs ≡ up_to mark xs ∷ others mark (behind mark xs)
 unfolding pieces
-pieces-cut mark [] = refl
-pieces-cut mark (x ∷ xs) = by (eqb x mark) (pieces-cut mark xs)
+pieces_cut mark [] = refl
+pieces_cut mark (x ∷ xs) = by (eqb x mark) (pieces_cut mark xs)
   where
     by : (t : Bool) → pieces mark xs ≡ up_to mark xs ∷ others mark (behind mark xs)
         → cond t ([] ∷ pieces mark xs) (longer x (pieces mark xs)) ≡ cond t [] (x ∷ up_to mark xs) ∷ others mark (cond t (Some xs) (behind mark xs))
@@ -80,9 +80,9 @@ pub record Cut (mark : ℕ) (xs front : List ℕ) (back : Option (List ℕ)) : T
   pub walks : pieces mark xs ≡ front ∷ others mark back
 
 pub cut : (mark : ℕ) (xs front : List ℕ) (back : Option (List ℕ)) → front ≡ up_to mark xs → back ≡ behind mark xs → Cut mark xs front back
-cut mark xs front back f b = record { first = f; second = b; walks = pieces-cut mark xs ∙ (ap (λ v. v ∷ others mark (behind mark xs)) (sym f) ∙ ap (λ v. front ∷ others mark v) (sym b)) }
+cut mark xs front back f b = record { first = f; second = b; walks = pieces_cut mark xs ∙ (ap (λ v. v ∷ others mark (behind mark xs)) (sym f) ∙ ap (λ v. front ∷ others mark v) (sym b)) }
 
 -- the last piece of what stands behind a mark is the last of all
 pub last_behind : (mark : ℕ) (xs ys : List ℕ) → behind mark xs ≡ Some ys → after_last mark xs ≡ after_last mark ys
 last_behind mark xs ys e =
-    ap last_of (pieces-cut mark xs ∙ ap (λ v. up_to mark xs ∷ others mark v) e) ∙ (ap (λ v. last_of (up_to mark xs ∷ v)) (pieces-cut mark ys) ∙ sym (ap last_of (pieces-cut mark ys)))
+    ap last_of (pieces_cut mark xs ∙ ap (λ v. up_to mark xs ∷ others mark v) e) ∙ (ap (λ v. last_of (up_to mark xs ∷ v)) (pieces_cut mark ys) ∙ sym (ap last_of (pieces_cut mark ys)))

@@ -1,6 +1,6 @@
 use Rattle.std.proofs.Common.{◌≡◌, true, sym, ◌∙◌}
 use Rattle.der.specs.Elements.{arcs, oid}
-use Rattle.der.proofs.Rules.{arcs_stop, arcs-inside, arcs_begin, arcs_all, oid_none, oid_some, oid_ruled}
+use Rattle.der.proofs.Rules.{arcs_stop, arcs_inside, arcs_begin, arcs_all, oid_none, oid_some, oid_ruled}
 use Rattle.der.proofs.is_oid.Goals as goal
 use Rattle.der.proofs.is_oid.Goals.{else-begins-via-then-begins+else-b, else-begins-via-else-begins}
 
@@ -21,7 +21,7 @@ loop-b-preserved c =
       | else-begins-via-then-begins+else-b w ↦
           sym (arcs_begin c.loop-b.begins c.args.content.now c.loop-b.b-index c.loop-b-test.true w.if-begins.true w.if-b.false) ∙ c.loop-b.invariant
       | else-begins-via-else-begins w ↦
-          sym (arcs-inside c.loop-b.begins c.args.content.now c.loop-b.b-index c.loop-b-test.true w.if-begins.false) ∙ c.loop-b.invariant
+          sym (arcs_inside c.loop-b.begins c.args.content.now c.loop-b.b-index c.loop-b-test.true w.if-begins.false) ∙ c.loop-b.invariant
     ]
 
 pub returns : goal.returns

@@ -1,7 +1,7 @@
 use Rattle.std.proofs.Common.{◌≡◌, ◌+◌, ◌<◌, ◌≤◌, length, Ok, Err, sym, arith}
 use Rattle.der.specs.Elements.{header, element}
 use Rattle.der.specs.Writing.{Puts}
-use Rattle.der.proofs.Overs.{element_size, fits_if, unfit_if, puts_if, puts_bytes, puts_element, refused-element}
+use Rattle.der.proofs.Overs.{element_size, fits_if, unfit_if, puts_if, puts_bytes, puts_element, refused_element}
 use Rattle.der.proofs.put_element.Goals as goal
 use Rattle.der.proofs.put_element.Goals.{then-at-out-via-then-at-out, then-at-out-via-else-at-out+then-n-out}
 
@@ -21,7 +21,7 @@ returns-in_err-at c =
     let s = element_size c.args.tag c.in_ok-n.n c.args.content.now (sym c.in_ok-n.ensures) in
     let p = puts_if _ c.args.at _ c.args.out.now (header c.args.tag (length c.args.content.now)) c.put_header.new.out s.0 c.in_err-at.ensures.answer c.put_header.ensures.holds in
     let w = fits_if (length c.args.content.now) c.args.at c.from_residual-in_err-at.result c.args.out.now (element c.args.tag c.args.content.now) c.put_header.new.out s.0 (omega (arith, s.1))
-    (refused-element _ c.from_residual-in_err-at.result c.args.out.now c.put_header.new.out c.put_header.new.out c.args.content.now c.args.at c.args.tag p) in
+    (refused_element _ c.from_residual-in_err-at.result c.args.out.now c.put_header.new.out c.put_header.new.out c.args.content.now c.args.at c.args.tag p) in
     record { answer = w.0; holds = w.1 }
 
 pub returns : goal.returns

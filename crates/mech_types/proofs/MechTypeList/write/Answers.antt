@@ -1,7 +1,7 @@
 use Rattle.std.proofs.Common.{sym, ◌∙◌, arith}
 use Rattle.std.proofs.lemmas.Result.{err_from_is_err_and}
 use Rattle.der.proofs.Ways.{err_ok, same_ok}
-use Rattle.der.proofs.Overs.{puts_header, puts_element, refused-element}
+use Rattle.der.proofs.Overs.{puts_header, puts_element, refused_element}
 use Rattle.mech_types.specs.Lists.{oids, mech_type_list}
 use Rattle.mech_types.specs.Views.{plain_oids}
 use Rattle.der.proofs.Promised.{writes_unfit, writes_short, writes_made}
@@ -31,7 +31,7 @@ returns-in_err-at c =
     let z = list_sizes (plain_oids c.args.oids.now) c.in_ok-body.body c.in_ok-body.ensures in
     let n = same_ok _ _ (c.in_ok-element_len.ensures ∙ z.token) in
     writes_made (mech_type_list (plain_oids c.args.oids.now)) c.args.out.now _ _ z.good (omega (arith, n, c.if-branch.false))
-    (refused-element _ _ _ _ _ (oids (plain_oids c.args.oids.now)) _ 0x30
+    (refused_element _ _ _ _ _ (oids (plain_oids c.args.oids.now)) _ 0x30
     (puts_header 0x30 _ c.in_ok-body.body _ _ _ _ z.body z.fits c.in_err-at.ensures.answer c.put_header.ensures.holds))
 
 pub put_oids-requires : goal.put_oids-requires

@@ -1,6 +1,6 @@
 use Rattle.std.proofs.Common.{length, sym, ap, ◌∙◌, subst, arith}
 use Rattle.der.specs.Writing.{Puts}
-use Rattle.der.proofs.Overs.{puts_header, puts_element, refused-element}
+use Rattle.der.proofs.Overs.{puts_header, puts_element, refused_element}
 use Rattle.spnego.specs.declared.part.Kind.TheVariants.{Element, Oid}
 use Rattle.spnego.specs.Tokens.{Fields, four_fields, sequence, targ_fields, targ_bytes}
 use Rattle.spnego.specs.Views.{plain_targ}
@@ -12,7 +12,7 @@ pub returns-in_err-at : goal.returns-in_err-at
 unfolding targ_bytes
 returns-in_err-at c =
     let z = targ_sizes (plain_targ c.args.token.now) (plain_lens c.args.n) c.requires in
-    refused-element _ _ _ _ _ (sequence Element Oid (targ_fields (plain_targ c.args.token.now))) _ 0xA1
+    refused_element _ _ _ _ _ (sequence Element Oid (targ_fields (plain_targ c.args.token.now))) _ 0xA1
     (puts_header 0xA1 _ c.args.n.content _ _ _ _ z.content (omega (arith, z.content, z.good.short)) c.in_err-at.ensures.answer c.put_header.ensures.holds)
 
 pub put_sequence-requires : goal.put_sequence-requires

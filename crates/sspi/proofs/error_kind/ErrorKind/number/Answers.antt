@@ -1,4 +1,4 @@
-use Rattle.std.proofs.Common.{◌≡◌, ap, ◌∙◌}
+use Rattle.std.proofs.Common.{ap, ◌∙◌}
 use Rattle.sspi.specs.Kinds.{kind_of}
 use Rattle.sspi.proofs.KindsBack.{back}
 use Rattle.sspi.proofs.error_kind.ErrorKind.number.Goals as goal
