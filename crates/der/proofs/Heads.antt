@@ -1,10 +1,10 @@
 -- Headers: what is written is read back, and what is read is the writing.
-use Rattle.std.proofs.Common.{◌≡◌, ℕ, ◌+◌, ◌*◌, ◌/◌, ◌%◌, ◌<◌, ◌≤◌, Bool, true, false, ◌&&◌, eqb, ltb, leb, ◌⊎◌, List, [], ◌∷◌, ◌++◌, length, get_or, drop, Ok, Err, Result, sym, refl, ap, ◌∙◌, ⊎_elim, div-add-mod', arith}
-use Rattle.std.proofs.lemmas.Bool.{lt-ltb, le-ltb, le-leb, ne_eqb, cases_lt, ltb-true, ltb-false, leb-true, eqb-true, and_parts}
+use Rattle.std.proofs.Common.{◌≡◌, ℕ, ◌+◌, ◌*◌, ◌/◌, ◌%◌, ◌<◌, ◌≤◌, ◌&&◌, eqb, ltb, leb, List, [], ◌∷◌, ◌++◌, length, get_or, drop, Ok, Result, sym, refl, ap, ◌∙◌, ⊎_elim, div-add-mod', arith}
+use Rattle.std.proofs.lemmas.Bool.{lt-ltb, le-ltb, le-leb, cases_lt, ltb-true, ltb-false, leb-true, eqb-true, and_parts}
 use Rattle.sspi.specs.declared.fault.Fault.{Fault}
 use Rattle.der.specs.Elements.{length_bytes, header}
 use Rattle.der.specs.Reading.{Head, head_of, long1, long2}
-use Rattle.der.proofs.Ways.{ways, err_ok, passed, let_through}
+use Rattle.der.proofs.Ways.{ways, passed, let_through}
 
 -- the three forms, by places in the input
 pub ok_short : (xs ys : List ℕ) → 2 ≤ length xs → get_or xs 1 0 < 128 → ys ≡ drop 2 xs → Ok (get_or xs 0 0, get_or xs 1 0, ys) ≡ head_of xs

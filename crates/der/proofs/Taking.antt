@@ -1,10 +1,10 @@
 -- Elements: what is written is read back, and what is read is the writing.
-use Rattle.std.proofs.Common.{◌≡◌, ℕ, ◌+◌, ◌<◌, ◌≤◌, Bool, true, false, cond, not, ◌&&◌, ◌||◌, eqb, ltb, leb, List, [], ◌∷◌, ◌++◌, length, get_or, take, drop, Some, None, Ok, Err, Option, Result, sym, refl, ap, ◌∙◌, subst, ⊎_elim, arith, length-append}
+use Rattle.std.proofs.Common.{◌≡◌, ℕ, ◌+◌, ◌<◌, ◌≤◌, true, false, cond, not, ◌&&◌, ◌||◌, eqb, ltb, leb, List, [], ◌++◌, length, get_or, take, drop, Some, None, Ok, Err, Option, Result, sym, refl, ap, ◌∙◌, subst, ⊎_elim, arith, length-append}
 use Rattle.std.proofs.lemmas.List.{take_at, drop_at, append_assoc, append-nil, take-append-drop, length-take-le, nil_from_length}
 use Rattle.std.proofs.lemmas.Bool.{lt-ltb, le-ltb, eq-eqb, ltb-false, eqb-true, and_parts, or_parts, not-false, cond-true, cond-false, false≢true}
 use Rattle.sspi.specs.declared.fault.Fault.{Fault}
 use Rattle.der.specs.Elements.{tag, header, element, optional, Short}
-use Rattle.der.specs.Reading.{and_then, Head, Taken, head_of, cut, take_of, only_of, begins, optional_of, whole, one_element, illegal}
+use Rattle.der.specs.Reading.{and_then, Taken, head_of, cut, take_of, only_of, begins, optional_of, whole, one_element, illegal}
 use Rattle.der.proofs.Ways.{ways, err_ok, same_ok, passed, let_through, Only, only_then, only_cond}
 use Rattle.der.proofs.Heads.{head_written, head_read}
 

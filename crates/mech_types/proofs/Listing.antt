@@ -1,11 +1,11 @@
 -- Lists of object identifiers: what is written is read back, what is read is the writing, and how a loop goes through one.
-use Rattle.std.proofs.Common.{◌≡◌, ℕ, zero, suc, ◌+◌, ◌-◌, ◌<◌, ◌≤◌, Bool, true, false, cond, ◌&&◌, eqb, List, [], ◌∷◌, ◌++◌, length, is_ok, Ok, Err, Result, sym, refl, ap, ◌∙◌, subst, ⊎_elim, arith, length-append}
-use Rattle.std.proofs.lemmas.List.{append_assoc, nil_from_length}
+use Rattle.std.proofs.Common.{◌≡◌, ℕ, zero, suc, ◌+◌, ◌-◌, ◌<◌, ◌≤◌, true, false, cond, ◌&&◌, eqb, List, [], ◌∷◌, ◌++◌, length, is_ok, Ok, Err, Result, sym, refl, ap, ◌∙◌, subst, ⊎_elim, arith, length-append}
+use Rattle.std.proofs.lemmas.List.{nil_from_length}
 use Rattle.std.proofs.lemmas.Bool.{eq-eqb, ne_eqb, eqb-true, eqb-false, and_parts, and_from, cond-true, cond-false, cases_eq}
 use Rattle.sspi.specs.declared.fault.Fault.{Fault}
-use Rattle.der.specs.Elements.{tag, header, element, oid}
+use Rattle.der.specs.Elements.{header, element, oid}
 use Rattle.der.specs.Promises.{Exact}
-use Rattle.der.specs.Reading.{illegal, and_then, Taken, take_of, only_of}
+use Rattle.der.specs.Reading.{illegal, and_then, take_of, only_of}
 use Rattle.der.proofs.Promised.{exact_from}
 use Rattle.der.proofs.Ways.{err_ok, ways, let_through, Only, only_then, only_cond}
 use Rattle.der.proofs.Taking.{both, length-element, take_written, take_read, only_written, only_read, refused_take, refused_only}

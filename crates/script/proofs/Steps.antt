@@ -1,5 +1,5 @@
 -- A step of a script, from what its entry is.
-use Rattle.std.proofs.Common.{◌≡◌, ℕ, ◌≤◌, Bool, cond, ◌&&◌, ltb, leb, List, length, Some, None, Ok, Err, Option, Result, sym, refl, ap, ◌∙◌}
+use Rattle.std.proofs.Common.{◌≡◌, ℕ, ◌≤◌, cond, ◌&&◌, ltb, leb, List, length, Some, None, Ok, Err, Result, sym, refl, ap, ◌∙◌}
 use Rattle.books.specs.Books.{count_of, entry_at, entry_of, end_of}
 use Rattle.books.specs.Views.{book_bytes}
 use Rattle.mechanism.specs.Promises.{step_front}

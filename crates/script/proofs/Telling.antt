@@ -1,5 +1,5 @@
 -- What an entry says, from what its number is read as.
-use Rattle.std.proofs.Common.{◌≡◌, ℕ, ◌<◌, ◌≤◌, cond, ltb, List, length, drop, Option, sym, refl, ap, ◌∙◌}
+use Rattle.std.proofs.Common.{◌≡◌, ℕ, ◌≤◌, ltb, List, length, drop, Option, sym, ap, ◌∙◌}
 use Rattle.script.specs.Plays.{number_of, kind_or, told, told_of}
 use Rattle.sspi.specs.Kinds.{kind_of}
 use Rattle.sspi.specs.Statuses.{status_of}

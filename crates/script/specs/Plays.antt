@@ -1,6 +1,6 @@
 -- What a script means. An entry of its book is a number in four bytes, the high one first, and a token. A number of a status is
 -- answered with the token, a number of a kind of fault refuses with that fault, and any other entry refuses as InternalError.
-use Rattle.std.specs.Prelude.{◌≡◌, ℕ, ◌+◌, ◌*◌, ◌%◌, Bool, true, false, cond, not, ◌||◌, List, [], ◌∷◌, length, drop, Some, None, Ok, Err, codes, Option, Result, ◌==◌, nat_lt, slice_index}
+use Rattle.std.specs.Prelude.{◌≡◌, ℕ, ◌+◌, ◌*◌, ◌%◌, Bool, true, false, cond, not, ◌||◌, List, ◌∷◌, length, drop, Some, None, Ok, Err, codes, Option, Result, ◌==◌, nat_lt, slice_index}
 use Rattle.std.specs.Borrow.{Bor}
 use Rattle.books.specs.Books.{entry_at}
 use Rattle.books.specs.Views.{book_bytes}

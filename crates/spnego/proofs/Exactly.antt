@@ -1,5 +1,5 @@
 -- Reading is exact: both directions of `Whole`, and one fault for all the rest.
-use Rattle.std.proofs.Common.{◌≡◌, ℕ, zero, suc, ◌+◌, ◌<◌, ◌≤◌, true, false, cond, ◌&&◌, eqb, List, [], ◌∷◌, ◌++◌, length, Some, None, Ok, Err, Option, Result, sym, refl, ap, ◌∙◌, subst}
+use Rattle.std.proofs.Common.{◌≡◌, ℕ, eqb, List, length, Some, None, Option, Result, sym, refl, subst}
 use Rattle.sspi.specs.declared.fault.Fault.{Fault}
 use Rattle.der.specs.Promises.{Exact}
 use Rattle.der.specs.Reading.{illegal, only_of, optional_of}

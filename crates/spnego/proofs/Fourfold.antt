@@ -1,11 +1,10 @@
 -- The four fields in their order: what is written is read back, and what is read is the writing.
-use Rattle.std.proofs.Common.{◌≡◌, ℕ, ◌+◌, ◌<◌, ◌≤◌, Bool, true, false, cond, eqb, List, [], ◌∷◌, ◌++◌, length, Some, None, Ok, Err, Option, Result, sym, refl, ap, ◌∙◌, subst, arith, length-append}
+use Rattle.std.proofs.Common.{◌≡◌, ℕ, ◌<◌, false, eqb, List, [], ◌++◌, length, Some, None, Ok, Option, sym, refl, ap, ◌∙◌, subst, arith, length-append}
 use Rattle.std.specs.Option.{option_map}
 use Rattle.std.proofs.lemmas.List.{append-nil, nil_from_length}
 use Rattle.std.proofs.lemmas.Bool.{eqb-true}
-use Rattle.sspi.specs.declared.fault.Fault.{Fault}
-use Rattle.der.specs.Elements.{tag, element, optional}
-use Rattle.der.specs.Reading.{illegal, and_then, only_of, begins}
+use Rattle.der.specs.Elements.{element}
+use Rattle.der.specs.Reading.{illegal, only_of, begins}
 use Rattle.der.proofs.Ways.{goes_on, let_through}
 use Rattle.der.proofs.Taking.{both, length-element, only_written, only_read, begins-optional}
 use Rattle.spnego.specs.declared.part.Kind.{Kind}

@@ -1,11 +1,11 @@
 -- What stands inside a field, and one field: what is written is read back, and what is read is the writing.
-use Rattle.std.proofs.Common.{◌≡◌, ℕ, ◌+◌, ◌<◌, ◌≤◌, Bool, true, false, cond, List, [], ◌∷◌, ◌++◌, length, is_ok, Some, None, Ok, Err, Option, Result, sym, refl, ap, ◌∙◌, subst, arith}
+use Rattle.std.proofs.Common.{◌≡◌, ℕ, ◌<◌, true, false, cond, List, ◌++◌, length, is_ok, Some, None, Ok, Err, Option, Result, refl, ap, ◌∙◌, subst, arith}
 use Rattle.std.specs.Option.{option_map}
 use Rattle.std.proofs.lemmas.Bool.{cond-true, false≢true}
 use Rattle.sspi.specs.declared.fault.Fault.{Fault}
-use Rattle.der.specs.Elements.{tag, header, element, optional, oid, bit_string, Short}
+use Rattle.der.specs.Elements.{tag, element, Short}
 use Rattle.der.specs.Reading.{illegal, and_then, only_of, one_element, begins, optional_of}
-use Rattle.der.proofs.Ways.{err_ok, let_through}
+use Rattle.der.proofs.Ways.{let_through}
 use Rattle.der.proofs.Taking.{both, length-element, only_written, only_read, element_one, one_element_lem, optional_written, optional_read}
 use Rattle.mech_types.specs.Reading.{read_mech_type_list}
 use Rattle.spnego.specs.declared.part.Kind.{Kind}

@@ -1,13 +1,13 @@
 -- Each field of a token is a part of its writing.
-use Rattle.std.proofs.Common.{◌≡◌, ℕ, List, [], ◌∷◌, ◌++◌, IfOk, Some, None, Ok, Err, Option, Result, sym, refl, ap, ◌∙◌, subst}
+use Rattle.std.proofs.Common.{◌≡◌, ℕ, List, [], ◌++◌, IfOk, Some, Ok, Err, Option, Result, sym, ap, ◌∙◌, subst}
 use Rattle.std.proofs.lemmas.List.{append-nil, append_assoc}
 use Rattle.sspi.specs.declared.fault.Fault.{Fault}
-use Rattle.der.specs.Elements.{header, element}
+use Rattle.der.specs.Elements.{element}
 use Rattle.spnego.specs.declared.part.Kind.{Kind}
 use Rattle.spnego.specs.declared.part.Kind.TheVariants.{Element, MechTypes, Oid, BitString, OctetString}
 use Rattle.spnego.specs.Tokens.{inside, field, Fields, four_fields, sequence, Targ, targ_fields, targ_bytes, Init, init_fields, init_content, init_bytes}
 use Rattle.spnego.specs.Reading.{read_targ, read_init}
-use Rattle.spnego.specs.Places.{Within, Part, Parts}
+use Rattle.spnego.specs.Places.{Within, Parts}
 use Rattle.spnego.proofs.Whole.{targ_read_lem, init_read_lem}
 
 whole : (p : List ℕ) → Within p p

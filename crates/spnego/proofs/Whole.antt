@@ -1,5 +1,5 @@
 -- Both tokens whole: what is written is read back, and what is read is the writing.
-use Rattle.std.proofs.Common.{◌≡◌, ℕ, ◌+◌, ◌<◌, ◌≤◌, List, [], ◌∷◌, ◌++◌, length, Ok, Err, Result, sym, refl, ap, ◌∙◌, subst, arith, length-append}
+use Rattle.std.proofs.Common.{◌≡◌, ℕ, ◌<◌, List, ◌++◌, length, Ok, refl, ap, ◌∙◌, subst, arith, length-append}
 use Rattle.der.specs.Elements.{element}
 use Rattle.der.specs.Reading.{only_of}
 use Rattle.der.proofs.Taking.{both, length-element, only_written, only_read}
@@ -7,7 +7,7 @@ use Rattle.der.proofs.Ways.{goes_on}
 use Rattle.mech_types.specs.Reading.{next_of}
 use Rattle.mech_types.proofs.Listing.{next_written, next_read}
 use Rattle.spnego.specs.declared.part.Kind.TheVariants.{Element, MechTypes, Oid, BitString}
-use Rattle.spnego.specs.Tokens.{Fields, sequence, Targ, targ_fields, targ_bytes, TargWellFormed, Init, init_fields, init_content, init_bytes, InitWellFormed}
+use Rattle.spnego.specs.Tokens.{sequence, Targ, targ_fields, targ_bytes, TargWellFormed, Init, init_fields, init_content, init_bytes, InitWellFormed}
 use Rattle.spnego.specs.Reading.{sequence_of, targ_of, read_targ, init_of, read_init}
 use Rattle.spnego.proofs.Fourfold.{sequence_written, sequence_read}
 

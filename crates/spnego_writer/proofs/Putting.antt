@@ -1,11 +1,10 @@
 -- Writing parts and fields, one behind the other, and the lengths that are computed before.
-use Rattle.std.proofs.Common.{◌≡◌, ℕ, ◌+◌, ◌<◌, ◌≤◌, true, false, cond, ltb, List, [], ◌∷◌, ◌++◌, length, drop, Some, None, Ok, Err, Option, Result, sym, refl, ap, ◌∙◌, subst, zero-add, arith, length-append, Bor}
-use Rattle.std.specs.Option.{option_map}
-use Rattle.std.proofs.lemmas.Bool.{lt-ltb, cond-true}
+use Rattle.std.proofs.Common.{◌≡◌, ℕ, ◌+◌, ◌<◌, List, length, Some, None, Ok, Err, Option, Result, sym, refl, ap, ◌∙◌, subst, arith, length-append, Bor}
+use Rattle.std.proofs.lemmas.Bool.{cond-true}
 use Rattle.sspi.specs.declared.fault.Fault.{Fault}
-use Rattle.der.specs.Elements.{header, element, optional, oid}
+use Rattle.der.specs.Elements.{header, element, oid}
 use Rattle.der.specs.Reading.{and_then}
-use Rattle.der.specs.Writing.{over, end_if, put_if, element_len, invalid, too_small, Puts}
+use Rattle.der.specs.Writing.{end_if, put_if, element_len, invalid, Puts}
 use Rattle.der.proofs.Promised.{only_element_len}
 use Rattle.der.proofs.Ways.{goes_on, err_ok, let_through, Only, only_at, only_then, only_cond}
 use Rattle.der.proofs.Taking.{both, length-element}

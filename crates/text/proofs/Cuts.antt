@@ -3,9 +3,7 @@ use Rattle.std.proofs.Common.{◌≡◌, ℕ, ◌+◌, ◌<◌, ◌≤◌, Bool,
 use Rattle.std.proofs.lemmas.Bool.{eq-eqb, ne_eqb}
 use Rattle.std.specs.Str.{bytes_eq}
 use Rattle.std.proofs.lemmas.Slice.Eq.{bytes_eq-Decides}
-use Rattle.std.proofs.lemmas.Bool.Decides.{same_from_decides}
 use Rattle.std.proofs.lemmas.List.{append-nil, append_assoc, at_drop_more, at_drop_all, take_more, take_all}
-use Rattle.text.specs.Cases.{small}
 use Rattle.text.specs.Pieces.{longer, pieces, up_to, behind, others, last_of, after_last}
 
 pub same_when : (xs ys : List ℕ) (r : Bool) → MatchBool r (xs ≡ ys) (xs ≡ ys → ⊥) → r ≡ bytes_eq xs ys

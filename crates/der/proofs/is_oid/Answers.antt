@@ -1,5 +1,4 @@
-use Rattle.std.proofs.Common.{◌≡◌, true, sym, ◌∙◌}
-use Rattle.der.specs.Elements.{arcs, oid}
+use Rattle.std.proofs.Common.{sym, ◌∙◌}
 use Rattle.der.proofs.Rules.{arcs_stop, arcs_inside, arcs_begin, arcs_all, oid_none, oid_some, oid_ruled}
 use Rattle.der.proofs.is_oid.Goals as goal
 use Rattle.der.proofs.is_oid.Goals.{else-begins-via-then-begins+else-b, else-begins-via-else-begins}

@@ -1,6 +1,5 @@
-use Rattle.std.proofs.Common.{◌≡◌, ◌+◌, ◌<◌, ◌≤◌, length, Ok, Err, sym, arith}
+use Rattle.std.proofs.Common.{◌+◌, ◌<◌, length, sym, arith}
 use Rattle.der.specs.Elements.{header, element}
-use Rattle.der.specs.Writing.{Puts}
 use Rattle.der.proofs.Overs.{element_size, fits_if, unfit_if, puts_if, puts_bytes, puts_element, refused_element}
 use Rattle.der.proofs.put_element.Goals as goal
 use Rattle.der.proofs.put_element.Goals.{then-at-out-via-then-at-out, then-at-out-via-else-at-out+then-n-out}

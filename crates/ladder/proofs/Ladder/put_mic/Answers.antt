@@ -1,4 +1,4 @@
-use Rattle.std.proofs.Common.{arith, rules}
+use Rattle.std.proofs.Common.{arith}
 use Rattle.ladder.proofs.Puts.{joined_front, joined_back}
 use Rattle.ladder.proofs.Ladder.put_mic.Goals as goal
 

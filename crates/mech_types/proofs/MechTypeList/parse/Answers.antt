@@ -1,9 +1,8 @@
-use Rattle.std.proofs.Common.{◌≡◌, ℕ, is_ok, sym, ap, ◌∙◌, rules}
+use Rattle.std.proofs.Common.{is_ok, sym, ap, ◌∙◌, rules}
 use Rattle.std.proofs.lemmas.Result.{err_from_is_err_and}
-use Rattle.std.proofs.lemmas.Bool.{eqb-true}
 use Rattle.der.specs.Reading.{and_then}
 use Rattle.mech_types.specs.Reading.{oids_of, read_mech_type_list}
-use Rattle.mech_types.proofs.Listing.{verdict, verdict_more, verdict_refused, verdict_all, err_from_verdict, ok_from_verdict, next_shorter}
+use Rattle.mech_types.proofs.Listing.{verdict_more, verdict_refused, verdict_all, err_from_verdict, ok_from_verdict, next_shorter}
 use Rattle.mech_types.proofs.MechTypeList.parse.Goals as goal
 
 pub returns-in_err-oids : goal.returns-in_err-oids

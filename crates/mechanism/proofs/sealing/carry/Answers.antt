@@ -1,4 +1,4 @@
-use Rattle.std.proofs.Common.{◌≡◌, ◌-◌, take, Ok, sym, ap, ◌∙◌, arith}
+use Rattle.std.proofs.Common.{◌≡◌, ◌-◌, take, Ok, ap, ◌∙◌, arith}
 use Rattle.mechanism.proofs.Sealable.{same_data, carries}
 use Rattle.mechanism.proofs.sealing.carry.Goals as goal
 

@@ -1,5 +1,4 @@
-use Rattle.std.proofs.Common.{◌≡◌, ◌+◌, ◌<◌, ◌≤◌, length, Ok, sym, refl, ap, ◌∙◌, arith}
-use Rattle.mechanism.specs.Promises.{may_seal}
+use Rattle.std.proofs.Common.{◌+◌, ◌<◌, ◌≤◌, length, Ok, sym, refl, ap, ◌∙◌, arith}
 use Rattle.mechanism.proofs.Sealable.{may_short}
 use Rattle.script.specs.Plays.{mic_of}
 use Rattle.sspi.specs.Faults.{and_then}

@@ -1,4 +1,4 @@
-use Rattle.std.proofs.Common.{◌<◌, length, sym, ap, ◌∙◌, subst, arith}
+use Rattle.std.proofs.Common.{length, sym, ap, ◌∙◌, subst, arith}
 use Rattle.der.specs.Writing.{Puts}
 use Rattle.der.proofs.Overs.{puts_if, puts_header, puts_puts, puts_refused, puts_element, refused_element}
 use Rattle.spnego.specs.declared.part.Kind.TheVariants.{MechTypes, BitString}
