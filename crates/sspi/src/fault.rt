@@ -1,5 +1,9 @@
-ghost use Rattle.std.specs.Prelude.{◌≡◌};
-ghost use Rattle.sspi.specs.Layers.{layer_name};
+ghost use Rattle.std.specs.Prelude.{◌≡◌, ◌==◌, ◌&&◌, Decides, nat_eq};
+ghost use Rattle.sspi.specs.Kinds.{kind_number};
+ghost use Rattle.sspi.specs.Layers.{layer_name, layer_number};
+ghost use Rattle.std.specs.Cmp.Rules.{comparing};
+ghost use Rattle.std.specs.Ordering.{on, eq_of_both};
+ghost use Rattle.std.proofs.Common.{rules};
 
 use crate::error_kind::ErrorKind;
 
@@ -25,8 +29,24 @@ impl Layer {
 }
 
 // A refusal: what went wrong, and in which layer. It keeps both on its way up.
-#[derive(Clone, Copy, PartialEq, Debug)]
+#[derive(Clone, Copy, Debug)]
 pub struct Fault {
     pub kind: ErrorKind,
     pub layer: Layer,
+}
+
+// Equal where kind and layer are.
+impl PartialEq for Fault {
+    ghost eq = { eq_of_both (on (λ f. kind_number f.kind) nat_eq) (on (λ f. layer_number f.layer) nat_eq) };
+
+    ghost laws = { Prim.search (comparing, rules) };
+
+    fn eq(&self, other: &Fault) -> bool
+        ensures numbers { result
+            ≡ ((kind_number self.now.kind == kind_number other.now.kind)
+            && (layer_number self.now.layer == layer_number other.now.layer)) }
+        ensures same { Decides result (self.now ≡ other.now) }
+    {
+        self.kind == other.kind && self.layer == other.layer
+    }
 }
