@@ -26,6 +26,14 @@ impl Layer {
             Layer::Mechanism => "mechanism",
         }
     }
+
+    // A refusal of this layer.
+    pub fn fault(self, kind: ErrorKind) -> Fault
+        ensures kind { result.kind ≡ kind }
+        ensures layer { result.layer ≡ self }
+    {
+        Fault { kind, layer: self }
+    }
 }
 
 // A refusal: what went wrong, and in which layer. It keeps both on its way up.
