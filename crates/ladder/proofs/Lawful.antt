@@ -1,13 +1,13 @@
 -- The laws of the steps.
-use Rattle.std.proofs.Common.{◌≡◌, ℕ, ◌+◌, ◌≤◌, Bool, true, false, cond, eqb, ltb, List, [], length, Ok, Err, Option, sym, refl, ap, subst, zero-le, arith, length-take}
+use Rattle.std.proofs.Common.{◌≡◌, ℕ, ◌+◌, ◌≤◌, Bool, true, false, cond, eqb, ltb, List, [], length, Some, None, Ok, Err, Option, sym, refl, ap, subst, zero-le, arith, length-take}
 use Rattle.ladder.specs.Mics.{ladder_sealing}
-use Rattle.ladder.specs.Rungs.{started, kept_name, accepted, called}
-use Rattle.ladder.specs.Steps.{Outcome, refused, climbed, onward, stepped, rests, begins, is_leg, topped, leg_bytes, status_at, name_heard, account_of, secret_of, name_of, allowed_next, ladder_stepping}
+use Rattle.ladder.specs.Rungs.{started, accepted, called}
+use Rattle.ladder.specs.Steps.{Given, given, Outcome, refused, climbed, onward, walked, stepped, rests, begins, is_leg, topped, leg_bytes, status_at, name_heard, name_in, allowed_next, ladder_stepping}
 use Rattle.ladder.specs.declared.Ladder.{Ladder}
-use Rattle.mechanism.specs.Identities.{Who}
+use Rattle.mechanism.specs.Identities.{held}
 use Rattle.mechanism.specs.Laws.{LawfulStepping, OfMechanism, too_small}
 use Rattle.mechanism.specs.Promises.{refusal}
-use Rattle.mechanism.specs.declared.mechanism.Side.{Side}
+use Rattle.mechanism.specs.declared.identity.Part.{Part}
 use Rattle.sspi.specs.declared.error_kind.ErrorKind.{ErrorKind}
 use Rattle.sspi.specs.declared.error_kind.ErrorKind.TheVariants.{NoContext, BufferTooSmall, IllegalMessage}
 use Rattle.sspi.specs.declared.fault.Fault.{Fault}
@@ -50,45 +50,46 @@ fine_if : (s : Ladder) (w : ℕ) (b : Bool) (o p : Outcome) → Fine s w o → F
 fine_if s w true o p f g = f
 fine_if s w false o p f g = g
 
-fine_climbed : (s : Ladder) (by : Side) (i : Option Who) (x : List ℕ) (w n : ℕ) → Fine s w (climbed s by i x w n)
-fine_climbed s by i x w n =
-    cond_both (ltb w (length (leg_bytes by n (account_of i)))) _ _ (Fine s w)
+fine_climbed : (s : Ladder) (g : Given) (w n : ℕ) → Fine s w (climbed s g w n)
+fine_climbed s g w n =
+    cond_both (ltb w (length (leg_bytes g n))) _ _ (Fine s w)
     (λ _. fine_refused s w BufferTooSmall)
-    (λ h. fine_ok s (called (accepted s by (secret_of i) n) (name_heard by (account_of i) x)) w (status_at n s.legs) (leg_bytes by n (account_of i)) (ltb-false w (length (leg_bytes by n (account_of i))) h))
+    (λ h. fine_ok s (called (accepted s g.by g.secret n) (name_heard g.by g.account g.input)) w (status_at n s.legs) (leg_bytes g n) (ltb-false w (length (leg_bytes g n)) h))
 
-fine_onward : (s : Ladder) (by : Side) (i : Option Who) (x : List ℕ) (w n : ℕ) → Fine s w (onward s by i x w n)
-fine_onward s by i x w n =
-    fine_if s w (eqb n s.legs) _ _ (fine_ok s (topped s by (secret_of i) x) w Done [] zero-le) (fine_climbed s by i x w (n + 1))
+fine_onward : (s : Ladder) (g : Given) (w n : ℕ) → Fine s w (onward s g w n)
+fine_onward s g w n =
+    fine_if s w (eqb n s.legs) _ _ (fine_ok s (topped s g.by g.secret g.input) w Done [] zero-le) (fine_climbed s g w (n + 1))
 
-fine_stepped : (s : Ladder) (by : Side) (i : Option Who) (x : List ℕ) (w : ℕ) → Fine s w (stepped s by i x w)
-fine_stepped s by i x w =
-    fine_if s w (rests s x) _ _ (fine_ok s (accepted s by (secret_of i) s.height) w Done [] zero-le)
-    (fine_if s w (begins s by) _ _ (fine_onward s by i x w 0)
-    (fine_if s w (is_leg s by x) _ _ (fine_onward s by i x w (s.height + 1)) (fine_refused s w IllegalMessage)))
+fine_walked : (s : Ladder) (g : Given) (w : ℕ) → Fine s w (walked s g w)
+fine_walked s g w =
+    fine_if s w (rests s g.input) _ _ (fine_ok s (accepted s g.by g.secret s.height) w Done [] zero-le)
+    (fine_if s w (begins s g.by) _ _ (fine_onward s g w 0)
+    (fine_if s w (is_leg s g.by g.input) _ _ (fine_onward s g w (s.height + 1)) (fine_refused s w IllegalMessage)))
 
-name_short : (s : Ladder) (b : Bool) (name : List ℕ) → cond b (Ok (kept_name s)) (Err (refusal NoContext)) ≡ Ok name → length name ≤ 64
-name_short s true name h =
-    let e : kept_name s ≡ name = cc in
-    let l : length (kept_name s) ≤ 64 = simp length-take (omega arith) in
+name_short : (o : Option Part) (name : List ℕ) → name_in o ≡ Ok name → length name ≤ 64
+name_short None name h = absurd (ok_not_err name (refusal NoContext) (sym h))
+name_short (Some p) name h =
+    let e : held p ≡ name = cc in
+    let f : p.len ≤ 64 = p.fits in
+    let l : length (held p) ≤ 64 = simp length-take (omega arith) in
     subst (λ (xs : List ℕ). length xs ≤ 64) e l
-name_short s false name h = absurd (ok_not_err name (refusal NoContext) (sym h))
 
-name_layer_lem : (s : Ladder) (b : Bool) → OfMechanism (cond b (Ok (kept_name s)) (Err (refusal NoContext)))
-name_layer_lem s true = ok_layer (kept_name s)
-name_layer_lem s false = refusal_layer NoContext
+name_layer_lem : (o : Option Part) → OfMechanism (name_in o)
+name_layer_lem None = refusal_layer NoContext
+name_layer_lem (Some p) = ok_layer (held p)
 
 pub lawful : LawfulStepping ladder_sealing ladder_stepping
 lawful = record {
-  fits = λ s by _ i x w st token h. (fine_stepped s by i x w).fits st token h;
-  named = λ s name h. name_short s s.named name h;
-  step_layer = λ s by _ i x w. (fine_stepped s by i x w).layer;
-  name_layer = λ s. name_layer_lem s s.named;
+  fits = λ s by _ i x w st token h. (fine_walked s (given by i x) w).fits st token h;
+  named = λ s name h. name_short s.account name h;
+  step_layer = λ s by _ i x w. (fine_walked s (given by i x) w).layer;
+  name_layer = λ s. name_layer_lem s.account;
   allow_layer = λ _ _ _. ok_layer tt;
-  too_small = λ s by _ i x w h. (fine_stepped s by i x w).small h;
+  too_small = λ s by _ i x w h. (fine_walked s (given by i x) w).small h;
   fresh = λ s t _ e. ap (λ (u : Ladder). started u.legs) e;
   step = λ s t by _ i x w e. ap (λ (u : Ladder). (stepped u by i x w).next) e;
   stepped = λ s t by _ i x w e. ap (λ (u : Ladder). (stepped u by i x w).answer) e;
-  name = λ s t e. ap name_of e;
+  name = λ s t e. ap (λ (u : Ladder). name_in u.account) e;
   allow = λ s t i anew e. ap (λ (u : Ladder). allowed_next u i.secret anew) e;
   allowed = λ _ _ _ _ _. refl;
 }

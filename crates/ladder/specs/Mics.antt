@@ -1,14 +1,18 @@
 -- The MICs of a ladder: the key in use, a byte for the side that made the MIC, and the data. A ladder takes the MICs of the other side.
-use Rattle.std.specs.Prelude.{◌≡◌, ℕ, ◌≤◌, Bool, true, false, cond, ◌&&◌, List, [], ◌∷◌, ◌++◌, length, ◌==◌, refl}
-use Rattle.std.proofs.Common.{arith, sym, ap, ◌∙◌, eqb-true, length-append, length-take}
-use Rattle.std.proofs.lemmas.List.{length-replicate}
-use Rattle.ladder.specs.Keys.{padded, key_of}
+use Rattle.std.specs.Prelude.{◌≡◌, ℕ, ◌≤◌, List, [], ◌∷◌, ◌++◌, length, drop, refl}
+use Rattle.std.proofs.Common.{arith, sym, ap, ◌∙◌, length-append, length-take}
+use Rattle.std.proofs.lemmas.List.{drop_at, length-replicate}
+use Rattle.std.proofs.lemmas.Slice.Eq.{bytes_eq-Decides}
+use Rattle.ladder.specs.Keys.{key_of}
 use Rattle.ladder.specs.Rungs.{is_up}
 use Rattle.ladder.specs.declared.Ladder.{Ladder}
 use Rattle.mechanism.specs.Laws.{Binds, Notes, LawfulSealing}
 use Rattle.mechanism.specs.Meaning.{Sealing}
+use Rattle.mechanism.specs.Paddings.{padded}
+use Rattle.mechanism.specs.Sides.{other_side}
 use Rattle.mechanism.specs.declared.mechanism.Side.{Side}
 use Rattle.mechanism.specs.declared.mechanism.Side.TheVariants.{Client, Server}
+use Rattle.std.specs.Option.{unwrap_or}
 use Rattle.std.specs.Str.{bytes_eq}
 
 -- the byte that stands for a side
@@ -16,13 +20,9 @@ abbrev pub side_byte : Side → ℕ
 side_byte Client = 0x43
 side_byte Server = 0x53
 
-abbrev pub other_side : Side → Side
-other_side Client = Server
-other_side Server = Client
-
 -- the key of the first identity that is allowed, or of the empty secret
 abbrev pub first_key : Ladder → List ℕ
-first_key s = key_of (cond s.allowed s.allowed_key [])
+first_key s = key_of (unwrap_or s.allowed_key [])
 
 -- the key in use after a step of a side
 abbrev pub key_for : Ladder → Side → List ℕ
@@ -50,34 +50,13 @@ length-padded n xs = simp (length-append, length-take, length-replicate) (omega 
 
 length_key : (s : Ladder) (by : Side) → length (key_for s by) ≡ 8
 length_key s Client = length-padded 8 s.client_key
-length_key s Server = length-padded 8 (cond s.allowed s.allowed_key [])
-
-not_true : false ≡ true → ⊥
-not_true e = let z : ◌≡◌ {A = ℕ} 0 1 = cc in omega arith
-
-both : (a b : Bool) → (a && b) ≡ true → (a ≡ true) × (b ≡ true)
-both true b e = (refl, e)
-both false b e = absurd (not_true e)
-
-same_bytes : (x y : List ℕ) → bytes_eq x y ≡ true → y ≡ x
-same_bytes [] [] e = refl
-same_bytes [] (b ∷ y) e = absurd (not_true e)
-same_bytes (a ∷ x) [] e = absurd (not_true e)
-same_bytes (a ∷ x) (b ∷ y) e =
-    let p = both (a == b) (bytes_eq x y) e in
-    let h : a ≡ b = eqb-true a b p.0 in
-    let t : y ≡ x = same_bytes x y p.1 in
-    cc
+length_key s Server = length-padded 8 (unwrap_or s.allowed_key [])
 
 -- equal byte strings with fronts of one length have equal backs
-same_backs : (k l : List ℕ) (a b : ℕ) (x y : List ℕ) → length k ≡ length l → k ++ a ∷ x ≡ l ++ b ∷ y → x ≡ y
-same_backs [] [] a b x y n e = cc
-same_backs [] (d ∷ l) a b x y n e = absurd (omega arith)
-same_backs (c ∷ k) [] a b x y n e = absurd (omega arith)
-same_backs (c ∷ k) (d ∷ l) a b x y n e =
-    let m : length k ≡ length l = omega arith in
-    let f : k ++ a ∷ x ≡ l ++ b ∷ y = cc in
-    same_backs k l a b x y m f
+same_backs : (n : ℕ) (k l : List ℕ) (a b : ℕ) (x y : List ℕ) → length k ≡ n → length l ≡ n → k ++ a ∷ x ≡ l ++ b ∷ y → x ≡ y
+same_backs n k l a b x y h i e =
+    let f : a ∷ x ≡ b ∷ y = sym (drop_at k (a ∷ x) n h) ∙ (ap (λ zs. drop n zs) e ∙ drop_at l (b ∷ y) n i) in
+    cc
 
 mic_short : (s : Ladder) (maker : Side) (x : List ℕ) → length x ≤ 128 → length (mic_by s maker x) ≤ 160
 mic_short s maker x h =
@@ -86,9 +65,8 @@ mic_short s maker x h =
 
 mic_binds : Binds ladder_sealing
 mic_binds s t x y p q e =
-    same_backs (key_for s s.side) (key_for t t.side) (side_byte s.side) (side_byte (other_side t.side)) x y
-    (length_key s s.side ∙ sym (length_key t t.side))
-    (same_bytes (mic_by t (other_side t.side) y) (mic_by s s.side x) e)
+    same_backs 8 (key_for s s.side) (key_for t t.side) (side_byte s.side) (side_byte (other_side t.side)) x y (length_key s s.side) (length_key t t.side)
+    (sym ((bytes_eq-Decides (mic_by t (other_side t.side) y) (mic_by s s.side x)).0 e))
 
 notes_kept : Notes ladder_sealing
 notes_kept = record {

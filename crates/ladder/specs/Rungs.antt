@@ -1,8 +1,9 @@
 -- The states of a ladder, and what moves it: a number of legs, the last leg seen or made, who took the last accepted step, the client's
 -- key, the key of the first identity that is allowed, and the name in the last client's leg.
-use Rattle.std.specs.Prelude.{ℕ, min, Bool, true, false, cond, ◌&&◌, List, length, take, replicate, ◌==◌, nat_le}
-use Rattle.ladder.specs.Keys.{padded, key_of}
+use Rattle.std.specs.Prelude.{ℕ, Bool, cond, ◌&&◌, List, replicate, Some, None, ◌==◌, nat_le}
+use Rattle.ladder.specs.Keys.{key_of}
 use Rattle.ladder.specs.declared.Ladder.{Ladder}
+use Rattle.mechanism.specs.Identities.{cut}
 use Rattle.mechanism.specs.declared.mechanism.Side.{Side}
 use Rattle.mechanism.specs.declared.mechanism.Side.TheVariants.{Client, Server}
 
@@ -17,11 +18,8 @@ started n = record {
   height = 0;
   side = Client;
   client_key = replicate 8 0;
-  allowed = false;
-  allowed_key = replicate 8 0;
-  named = false;
-  account = replicate 64 0;
-  account_len = 0;
+  allowed_key = None;
+  account = None;
 }
 
 abbrev pub is_up : Ladder → Bool
@@ -34,46 +32,12 @@ next_client_key s Server secret = s.client_key
 
 -- a step of a side with a secret was accepted, and the last leg is now n
 abbrev pub accepted : Ladder → Side → List ℕ → ℕ → Ladder
-accepted s by secret n = record {
-  legs = s.legs;
-  height = n;
-  side = by;
-  client_key = next_client_key s by secret;
-  allowed = s.allowed;
-  allowed_key = s.allowed_key;
-  named = s.named;
-  account = s.account;
-  account_len = s.account_len;
-}
+accepted s by secret n = record s { height = n; side = by; client_key = next_client_key s by secret }
 
--- a client's leg held this name
+-- a client's leg held this name, of which 64 bytes are kept
 abbrev pub called : Ladder → List ℕ → Ladder
-called s who = record {
-  legs = s.legs;
-  height = s.height;
-  side = s.side;
-  client_key = s.client_key;
-  allowed = s.allowed;
-  allowed_key = s.allowed_key;
-  named = true;
-  account = padded 64 who;
-  account_len = min (length who) 64;
-}
-
--- the name that is kept
-abbrev pub kept_name : Ladder → List ℕ
-kept_name s = take (min s.account_len 64) s.account
+called s who = record s { account = Some (cut who) }
 
 -- an identity with this secret is the first of a set
 abbrev pub allowing : Ladder → List ℕ → Ladder
-allowing s secret = record {
-  legs = s.legs;
-  height = s.height;
-  side = s.side;
-  client_key = s.client_key;
-  allowed = true;
-  allowed_key = key_of secret;
-  named = s.named;
-  account = s.account;
-  account_len = s.account_len;
-}
+allowing s secret = record s { allowed_key = Some (key_of secret) }

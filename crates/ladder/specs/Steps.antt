@@ -1,10 +1,12 @@
 -- A step on the ladder. Legs are numbered from 1: a client's leg is its number and the name of an account, a server's leg the number alone.
 use Rattle.std.specs.Prelude.{◌≡◌, ℕ, ◌+◌, Bool, false, cond, ◌&&◌, List, [], ◌∷◌, length, drop, Some, None, Ok, Err, Option, Result, ◌==◌, nat_le, nat_lt, slice_index}
-use Rattle.ladder.specs.Rungs.{started, is_up, accepted, called, kept_name, allowing}
+use Rattle.std.specs.Option.{is_some}
+use Rattle.ladder.specs.Rungs.{started, is_up, accepted, called, allowing}
 use Rattle.ladder.specs.declared.Ladder.{Ladder}
-use Rattle.mechanism.specs.Identities.{Who}
+use Rattle.mechanism.specs.Identities.{Who, held}
 use Rattle.mechanism.specs.Meaning.{Stepping}
 use Rattle.mechanism.specs.Promises.{refusal, step_front, Within}
+use Rattle.mechanism.specs.declared.identity.Part.{Part}
 use Rattle.mechanism.specs.declared.mechanism.Side.{Side}
 use Rattle.mechanism.specs.declared.mechanism.Side.TheVariants.{Client, Server}
 use Rattle.sspi.specs.declared.error_kind.ErrorKind.{ErrorKind}
@@ -13,14 +15,17 @@ use Rattle.sspi.specs.declared.fault.Fault.{Fault}
 use Rattle.sspi.specs.declared.security_status.SecurityStatus.{SecurityStatus}
 use Rattle.sspi.specs.declared.security_status.SecurityStatus.TheVariants.{Ok as Done, ContinueNeeded}
 
--- account and secret of an identity, empty without one
-abbrev pub account_of : Option Who → List ℕ
-account_of None = []
-account_of (Some i) = i.account
+-- what a step is given: who takes it, account and secret of the identity, and the input
+pub record Given : Type 0 where
+  pub by : Side
+  pub account : List ℕ
+  pub secret : List ℕ
+  pub input : List ℕ
 
-abbrev pub secret_of : Option Who → List ℕ
-secret_of None = []
-secret_of (Some i) = i.secret
+-- account and secret are empty without an identity
+abbrev pub given : Side → Option Who → List ℕ → Given
+given by None x = record { by = by; account = []; secret = []; input = x }
+given by (Some i) x = record { by = by; account = i.account; secret = i.secret; input = x }
 
 -- the state after a step, and its answer with the token
 pub record Outcome : Type 0 where
@@ -58,8 +63,8 @@ abbrev pub behind : Side → List ℕ → List ℕ
 behind Client account = account
 behind Server account = []
 
-abbrev pub leg_bytes : Side → ℕ → List ℕ → List ℕ
-leg_bytes by n account = n ∷ behind by account
+abbrev pub leg_bytes : Given → ℕ → List ℕ
+leg_bytes g n = n ∷ behind g.by g.account
 
 -- the name in the client's leg, where a client makes one and a server has heard one
 abbrev pub name_heard : Side → List ℕ → List ℕ → List ℕ
@@ -75,21 +80,24 @@ abbrev pub status_at : ℕ → ℕ → SecurityStatus
 status_at n legs = cond (n == legs) Done ContinueNeeded
 
 -- leg n is made, if it fits
-abbrev pub climbed : Ladder → Side → Option Who → List ℕ → ℕ → ℕ → Outcome
-climbed s by i x w n = cond (nat_lt w (length (leg_bytes by n (account_of i)))) (refused s BufferTooSmall) (record {
-  next = called (accepted s by (secret_of i) n) (name_heard by (account_of i) x);
-  answer = Ok (status_at n s.legs, leg_bytes by n (account_of i));
+abbrev pub climbed : Ladder → Given → ℕ → ℕ → Outcome
+climbed s g w n = cond (nat_lt w (length (leg_bytes g n))) (refused s BufferTooSmall) (record {
+  next = called (accepted s g.by g.secret n) (name_heard g.by g.account g.input);
+  answer = Ok (status_at n s.legs, leg_bytes g n);
 })
 
 -- leg n is the last that was seen
-abbrev pub onward : Ladder → Side → Option Who → List ℕ → ℕ → ℕ → Outcome
-onward s by i x w n = cond (n == s.legs) (at_top (topped s by (secret_of i) x)) (climbed s by i x w (n + 1))
+abbrev pub onward : Ladder → Given → ℕ → ℕ → Outcome
+onward s g w n = cond (n == s.legs) (at_top (topped s g.by g.secret g.input)) (climbed s g w (n + 1))
 
-abbrev pub heard : Ladder → Side → Option Who → List ℕ → ℕ → Outcome
-heard s by i x w = cond (is_leg s by x) (onward s by i x w (s.height + 1)) (refused s IllegalMessage)
+abbrev pub heard : Ladder → Given → ℕ → Outcome
+heard s g w = cond (is_leg s g.by g.input) (onward s g w (s.height + 1)) (refused s IllegalMessage)
+
+abbrev pub walked : Ladder → Given → ℕ → Outcome
+walked s g w = cond (rests s g.input) (at_top (accepted s g.by g.secret s.height)) (cond (begins s g.by) (onward s g w 0) (heard s g w))
 
 abbrev pub stepped : Ladder → Side → Option Who → List ℕ → ℕ → Outcome
-stepped s by i x w = cond (rests s x) (at_top (accepted s by (secret_of i) s.height)) (cond (begins s by) (onward s by i x w 0) (heard s by i x w))
+stepped s by i x w = walked s (given by i x) w
 
 -- what a step that has this outcome leaves and answers
 pub record Did (o : Outcome) (t : Ladder) (before after : List ℕ) (r : Result (SecurityStatus × ℕ) Fault) : Type 0 where
@@ -97,20 +105,21 @@ pub record Did (o : Outcome) (t : Ladder) (before after : List ℕ) (r : Result 
   pub answer : o.answer ≡ step_front r after
   pub within : Within r (length before)
 
--- the name in the last client's leg
-abbrev pub name_of : Ladder → Result (List ℕ) Fault
-name_of s = cond s.named (Ok (kept_name s)) (Err (refusal NoContext))
+-- the name in a part that was kept
+abbrev pub name_in : Option Part → Result (List ℕ) Fault
+name_in None = Err (refusal NoContext)
+name_in (Some p) = Ok (held p)
 
 -- the first identity of a set stays until a new set begins
 abbrev pub allowed_next : Ladder → List ℕ → Bool → Ladder
-allowed_next s secret anew = cond anew (allowing s secret) (cond s.allowed s (allowing s secret))
+allowed_next s secret anew = cond anew (allowing s secret) (cond (is_some s.allowed_key) s (allowing s secret))
 
 abbrev pub ladder_stepping : Stepping Ladder
 ladder_stepping = record {
   fresh_next = λ s _. started s.legs;
   step_next = λ s by _ i x w. (stepped s by i x w).next;
   step_answer = λ s by _ i x w. (stepped s by i x w).answer;
-  name_answer = name_of;
+  name_answer = λ s. name_in s.account;
   allow_next = λ s i anew. allowed_next s i.secret anew;
   allow_answer = λ _ _ _. Ok tt;
 }

@@ -3,7 +3,7 @@
 ghost use Rattle.std.specs.Prelude.{◌≡◌};
 ghost use Rattle.ladder.specs.Rungs.{legs_of, started};
 
-use mechanism::Side;
+use mechanism::{Part, Side};
 
 mod bytes;
 mod seals;
@@ -18,13 +18,10 @@ pub struct Ladder {
     // Who took the last accepted step.
     side: Side,
     client_key: [u8; 8],
-    // Whether there is a set of allowed identities, and the key of its first.
-    allowed: bool,
-    allowed_key: [u8; 8],
-    // Whether a client's leg was seen or made, and the name in it.
-    named: bool,
-    account: [u8; 64],
-    account_len: usize,
+    // The key of the first allowed identity.
+    allowed_key: Option<[u8; 8]>,
+    // The name in the last client's leg.
+    account: Option<Part>,
 }
 
 impl Ladder {
@@ -32,10 +29,9 @@ impl Ladder {
     pub fn new(legs: u8) -> Ladder
         ensures { result ≡ started (legs_of legs) }
     {
-        if 1 <= legs && legs <= 8 {
-            Ladder::start(legs)
-        } else {
-            Ladder::start(8)
+        match legs {
+            1..=8 => Ladder::start(legs),
+            _ => Ladder::start(8),
         }
     }
 
@@ -47,11 +43,8 @@ impl Ladder {
             height: 0,
             side: Side::Client,
             client_key: [0; 8],
-            allowed: false,
-            allowed_key: [0; 8],
-            named: false,
-            account: [0; 64],
-            account_len: 0,
+            allowed_key: None,
+            account: None,
         }
     }
 }

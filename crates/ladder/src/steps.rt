@@ -1,79 +1,68 @@
 ghost use Rattle.std.specs.Prelude.{◌≡◌, ◌≤◌, length};
-ghost use Rattle.ladder.specs.Rungs.{next_client_key, accepted, called, allowing};
-ghost use Rattle.ladder.specs.Steps.{account_of, secret_of, rests, begins, longest_heard, is_leg, behind, name_heard, topped, status_at, climbed, onward, Did, ladder_stepping};
-ghost use Rattle.mechanism.specs.Identities.{who, who_if};
+ghost use Rattle.ladder.specs.Rungs.{accepted, called};
+ghost use Rattle.ladder.specs.Steps.{given, rests, begins, longest_heard, is_leg, behind, name_heard, topped, status_at, climbed, onward, Did, ladder_stepping};
+ghost use Rattle.ladder.specs.Turns.{read};
+ghost use Rattle.mechanism.specs.Identities.{who_if};
 
 use crate::Ladder;
-use crate::bytes::{at_most, key_of, name_in_64, name_in_leg, put_headed};
-use crate::seals::NO_CONTEXT;
-use mechanism::{Identity, Mechanism, Side};
+use crate::bytes::put_headed;
+use mechanism::{Identity, Mechanism, Part, Side, padded};
 use sspi::{ErrorKind, Fault, Layer, SecurityStatus};
 
-const NO_LEG: Fault = Fault {
-    kind: ErrorKind::IllegalMessage,
-    layer: Layer::Mechanism,
-};
-
-const TOO_SMALL: Fault = Fault {
-    kind: ErrorKind::BufferTooSmall,
-    layer: Layer::Mechanism,
-};
-
-fn account_of<'a>(identity: Option<&'a Identity>) -> &'a [u8]
-    ensures { result.now ≡ account_of (who_if identity.entry) }
-{
-    match identity {
-        Some(who) => who.account.as_slice(),
-        None => &[],
-    }
+// What one step is given: who takes it, account and secret of the identity, and the input.
+#[derive(Clone, Copy)]
+struct Turn<'a> {
+    side: Side,
+    account: &'a [u8],
+    secret: &'a [u8],
+    input: &'a [u8],
 }
 
-fn secret_of<'a>(identity: Option<&'a Identity>) -> &'a [u8]
-    ensures { result.now ≡ secret_of (who_if identity.entry) }
-{
-    match identity {
-        Some(who) => who.secret.as_slice(),
-        None => &[],
+impl<'a> Turn<'a> {
+    fn new(side: Side, identity: Option<&'a Identity>, input: &'a [u8]) -> Turn<'a>
+        ensures { read result ≡ given side (who_if identity.entry) input.now }
+    {
+        let (account, secret): (&[u8], &[u8]) = match identity {
+            Some(who) => (who.account.as_slice(), who.secret.as_slice()),
+            None => (&[], &[]),
+        };
+        Turn {
+            side,
+            account,
+            secret,
+            input,
+        }
     }
-}
 
-// The longest leg that the side hears.
-fn longest_heard(side: Side) -> usize
-    ensures { result ≡ longest_heard side }
-{
-    match side {
-        Side::Client => 1,
-        Side::Server => 65,
+    // What the side's leg holds behind its number.
+    fn behind(&self) -> &'a [u8]
+        ensures { result.now ≡ behind self.now.side self.now.account.now }
+    {
+        match self.side {
+            Side::Client => self.account,
+            Side::Server => &[],
+        }
     }
-}
 
-// What a leg of the side holds behind its number.
-fn behind<'a>(side: Side, account: &'a [u8]) -> &'a [u8]
-    ensures { result.now ≡ behind side account.now }
-{
-    match side {
-        Side::Client => account,
-        Side::Server => &[],
+    // The name in the client's leg, which the client makes and the server has heard.
+    fn name(&self) -> &'a [u8]
+        ensures { result.now ≡ name_heard self.now.side self.now.account.now self.now.input.now }
+    {
+        match (self.side, self.input) {
+            (Side::Client, _) => self.account,
+            (Side::Server, [_, name @ ..]) => name,
+            (Side::Server, []) => &[],
+        }
     }
-}
 
-// The name in the client's leg, which the client makes and the server has heard.
-fn name_heard<'a>(side: Side, account: &'a [u8], input: &'a [u8]) -> &'a [u8]
-    ensures { result.now ≡ name_heard side account.now input.now }
-{
-    match side {
-        Side::Client => account,
-        Side::Server => name_in_leg(input),
-    }
-}
-
-fn status_at(leg: u8, legs: u8) -> SecurityStatus
-    ensures { result ≡ status_at leg legs }
-{
-    if leg == legs {
-        SecurityStatus::Ok
-    } else {
-        SecurityStatus::ContinueNeeded
+    // The longest leg that the side hears.
+    fn longest_heard(&self) -> usize
+        ensures { result ≡ longest_heard self.now.side }
+    {
+        match self.side {
+            Side::Client => 1,
+            Side::Server => 65,
+        }
     }
 }
 
@@ -89,107 +78,92 @@ impl Ladder {
     fn begins(&self, side: Side) -> bool
         ensures { result ≡ begins self.now side }
     {
-        match side {
-            Side::Client => self.height == 0,
-            Side::Server => false,
-        }
+        side == Side::Client && self.height == 0
     }
 
     // Whether the input is the next leg of the other side.
-    fn is_leg(&self, side: Side, input: &[u8]) -> bool
-        ensures { result ≡ is_leg self.now side input.now }
+    fn is_leg(&self, turn: &Turn) -> bool
+        ensures { result ≡ is_leg self.now turn.now.side turn.now.input.now }
     {
         self.height < self.legs
-            && 0 < input.len()
-            && input.len() <= longest_heard(side)
-            && input[0] == self.height + 1
+            && 0 < turn.input.len()
+            && turn.input.len() <= turn.longest_heard()
+            && turn.input[0] == self.height + 1
     }
 
-    fn client_key(&self, side: Side, secret: &[u8]) -> [u8; 8]
-        ensures { result ≡ next_client_key self.now side secret.now }
+    // What a step answers that leaves the ladder as it stands.
+    fn status(&self) -> SecurityStatus
+        ensures { result ≡ status_at self.now.height self.now.legs }
     {
-        match side {
-            Side::Client => key_of(secret),
-            Side::Server => self.client_key,
+        if self.is_up() {
+            SecurityStatus::Ok
+        } else {
+            SecurityStatus::ContinueNeeded
         }
     }
 
     // Notes an accepted step, after which the last leg is `leg`.
-    fn accept(&mut self, side: Side, secret: &[u8], leg: u8)
-        ensures { self.new ≡ accepted self.old side secret.now leg }
+    fn accept(&mut self, turn: &Turn, leg: u8)
+        ensures { self.new ≡ accepted self.old turn.now.side turn.now.secret.now leg }
     {
-        self.client_key = self.client_key(side, secret);
-        self.side = side;
+        if turn.side == Side::Client {
+            self.client_key = padded(turn.secret);
+        }
+        self.side = turn.side;
         self.height = leg;
     }
 
     // Keeps the name in a client's leg.
-    fn call(&mut self, name: &[u8])
-        ensures { self.new ≡ called self.old name.now }
+    fn call(&mut self, turn: &Turn)
+        ensures { self.new ≡ called self.old (name_heard turn.now.side turn.now.account.now turn.now.input.now) }
     {
-        self.named = true;
-        self.account = name_in_64(name);
-        self.account_len = at_most(name.len(), 64);
+        self.account = Some(Part::cut(turn.name()));
     }
 
     // Reaches the top by a leg that was heard.
-    fn top(&mut self, side: Side, secret: &[u8], input: &[u8])
-        ensures { self.new ≡ topped self.old side secret.now input.now }
+    fn top(&mut self, turn: &Turn)
+        ensures { self.new ≡ topped self.old turn.now.side turn.now.secret.now turn.now.input.now }
     {
-        self.accept(side, secret, self.legs);
-        match side {
-            Side::Client => {}
-            Side::Server => self.call(name_in_leg(input)),
+        self.accept(turn, self.legs);
+        if turn.side == Side::Server {
+            self.call(turn);
         }
     }
 
     // Makes the leg, if it fits.
     fn climb(
         &mut self,
-        side: Side,
-        identity: Option<&Identity>,
-        input: &[u8],
+        turn: &Turn,
         work: &mut [u8],
         leg: u8,
     ) -> Result<(SecurityStatus, usize), Fault>
-        ensures { Did (climbed self.old side (who_if identity.entry) input.now (length work.old) leg) self.new work.old work.new result }
+        ensures { Did (climbed self.old (read turn.now) (length work.old) leg) self.new work.old work.new result }
     {
-        let account = account_of(identity);
-        let tail = behind(side, account);
+        let tail = turn.behind();
         if work.len() <= tail.len() {
-            return Err(TOO_SMALL);
+            return Err(Layer::Mechanism.fault(ErrorKind::BufferTooSmall));
         }
         let len = put_headed(work, leg, tail);
-        self.accept(side, secret_of(identity), leg);
-        self.call(name_heard(side, account, input));
-        Ok((status_at(leg, self.legs), len))
+        self.accept(turn, leg);
+        self.call(turn);
+        Ok((self.status(), len))
     }
 
     // Goes on from the last leg that was seen.
     fn onward(
         &mut self,
-        side: Side,
-        identity: Option<&Identity>,
-        input: &[u8],
+        turn: &Turn,
         work: &mut [u8],
         seen: u8,
     ) -> Result<(SecurityStatus, usize), Fault>
         requires { seen ≤ self.old.legs }
-        ensures { Did (onward self.old side (who_if identity.entry) input.now (length work.old) seen) self.new work.old work.new result }
+        ensures { Did (onward self.old (read turn.now) (length work.old) seen) self.new work.old work.new result }
     {
         if seen == self.legs {
-            self.top(side, secret_of(identity), input);
+            self.top(turn);
             return Ok((SecurityStatus::Ok, 0));
         }
-        self.climb(side, identity, input, work, seen + 1)
-    }
-
-    // Makes the identity's key that of the first allowed.
-    fn allow_first(&mut self, identity: &Identity)
-        ensures { self.new ≡ allowing self.old (who identity.now).secret }
-    {
-        self.allowed = true;
-        self.allowed_key = key_of(identity.secret.as_slice());
+        self.climb(turn, work, seen + 1)
     }
 }
 
@@ -208,31 +182,31 @@ impl Mechanism for Ladder {
         input: &[u8],
         work: &mut [u8],
     ) -> Result<(SecurityStatus, usize), Fault> {
+        let turn = Turn::new(side, identity, input);
         if self.rests(input) {
-            self.accept(side, secret_of(identity), self.height);
+            self.accept(&turn, self.height);
             return Ok((SecurityStatus::Ok, 0));
         }
         if self.begins(side) {
-            return self.onward(side, identity, input, work, 0);
+            return self.onward(&turn, work, 0);
         }
-        if !self.is_leg(side, input) {
-            return Err(NO_LEG);
+        if !self.is_leg(&turn) {
+            return Err(Layer::Mechanism.fault(ErrorKind::IllegalMessage));
         }
-        self.onward(side, identity, input, work, self.height + 1)
+        self.onward(&turn, work, self.height + 1)
     }
 
     fn name(&self, name: &mut [u8; 64]) -> Result<usize, Fault> {
-        if !self.named {
-            return Err(NO_CONTEXT);
-        }
-        let len = at_most(self.account_len, 64);
-        name[0..len].copy_from_slice(&self.account[0..len]);
-        Ok(len)
+        let no_name = Layer::Mechanism.fault(ErrorKind::NoContext);
+        let account = self.account.ok_or(no_name)?;
+        let held = account.as_slice();
+        name[..held.len()].copy_from_slice(held);
+        Ok(held.len())
     }
 
     fn allow(&mut self, identity: &Identity, new_set: bool) -> Result<(), Fault> {
-        if new_set || !self.allowed {
-            self.allow_first(identity);
+        if new_set || self.allowed_key.is_none() {
+            self.allowed_key = Some(padded(identity.secret.as_slice()));
         }
         Ok(())
     }

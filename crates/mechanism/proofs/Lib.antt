@@ -1,1 +1,2 @@
+pub mod Paddings
 pub mod Sealable

@@ -1,6 +1,8 @@
 -- Who logs on: a user, an account, a domain and a secret, each of at most 64 bytes, and perhaps the number of a KDC.
-use Rattle.std.specs.Prelude.{ℕ, Bool, cond, List, length, take, Some, None, Ok, Err, Option, Result, nat_le}
+use Rattle.std.specs.Prelude.{ℕ, min, Bool, cond, List, length, take, Some, None, Ok, Err, Option, Result, nat_le}
 use Rattle.std.specs.Borrow.{Bor}
+use Rattle.std.proofs.Math.Nat.{min-le_right}
+use Rattle.mechanism.specs.Paddings.{padded}
 use Rattle.mechanism.specs.declared.identity.Identity.{Identity}
 use Rattle.mechanism.specs.declared.identity.Part.{Part}
 use Rattle.sspi.specs.declared.error_kind.ErrorKind.TheVariants.{InvalidParameter}
@@ -18,6 +20,10 @@ pub record Who : Type 0 where
 -- what a part holds
 abbrev pub held : Part → List ℕ
 held p = take p.len p.bytes
+
+-- the part that holds the first 64 bytes, with zeros behind them
+abbrev pub cut : List ℕ → Part
+cut xs = record { bytes = padded 64 xs; len = min (length xs) 64; fits = min-le_right (length xs) 64 }
 
 abbrev pub who : Identity → Who
 who i = record { user = held i.user; account = held i.account; domain = held i.domain; secret = held i.secret; kdc = i.kdc }

@@ -2,30 +2,21 @@ ghost use Rattle.std.specs.Prelude.{◌≡◌};
 ghost use Rattle.mechanism.specs.Identities.{who, who_if};
 ghost use Rattle.mechanism.specs.Laws.{LawfulSealing, LawfulStepping};
 ghost use Rattle.mechanism.specs.Meaning.{Sealing, Stepping};
-ghost use Rattle.mechanism.specs.Promises.{refusal, may_seal, Makes, Checks, Steps, Names, Allows};
+ghost use Rattle.mechanism.specs.Promises.{may_seal, Makes, Checks, Steps, Names, Allows};
+ghost use Rattle.mechanism.specs.Sides.{other_side};
 
 use crate::identity::Identity;
 use sspi::{ErrorKind, Fault, Layer, SecurityStatus};
-
-// A refusal of a mechanism.
-pub fn refuse(kind: ErrorKind) -> Fault
-    ensures { result ≡ refusal kind }
-{
-    Fault {
-        kind,
-        layer: Layer::Mechanism,
-    }
-}
 
 // Whether data may be sealed: it is not too long, and the session is up.
 pub fn may_seal(data: &[u8], up: bool) -> Result<(), Fault>
     ensures { result ≡ may_seal up «data».now }
 {
     if data.len() > 128 {
-        return Err(refuse(ErrorKind::InvalidParameter));
+        return Err(Layer::Mechanism.fault(ErrorKind::InvalidParameter));
     }
     if !up {
-        return Err(refuse(ErrorKind::NoContext));
+        return Err(Layer::Mechanism.fault(ErrorKind::NoContext));
     }
     Ok(())
 }
@@ -35,6 +26,18 @@ pub fn may_seal(data: &[u8], up: bool) -> Result<(), Fault>
 pub enum Side {
     Client,
     Server,
+}
+
+impl Side {
+    // The side that this one speaks with.
+    pub fn other(self) -> Side
+        ensures { result ≡ other_side self }
+    {
+        match self {
+            Side::Client => Side::Server,
+            Side::Server => Side::Client,
+        }
+    }
 }
 
 // What makes MICs over data and checks them, once a session is up.

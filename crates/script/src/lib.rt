@@ -9,8 +9,8 @@ ghost use Rattle.sspi.specs.Kinds.{kind_of};
 ghost use Rattle.std.specs.Str.{bytes_eq};
 
 use books::Book;
-use mechanism::{Identity, Mechanism, Sealer, Side, may_seal, refuse};
-use sspi::{ErrorKind, Fault, SecurityStatus};
+use mechanism::{Identity, Mechanism, Sealer, Side, may_seal};
+use sspi::{ErrorKind, Fault, Layer, SecurityStatus};
 
 // A mechanism that plays a book, entry by entry.
 pub struct Script<'a> {
@@ -82,13 +82,13 @@ fn tell(entry: &[u8]) -> Result<(SecurityStatus, &[u8]), Fault>
     ensures { plain_told result ≡ told entry.now }
 {
     if entry.len() < 4 {
-        return Err(refuse(ErrorKind::InternalError));
+        return Err(Layer::Mechanism.fault(ErrorKind::InternalError));
     }
     let number = number_of(entry);
     let (_, token) = entry.split_at(4);
     match SecurityStatus::from_number(number) {
         Some(status) => Ok((status, token)),
-        None => Err(refuse(fault_kind(number))),
+        None => Err(Layer::Mechanism.fault(fault_kind(number))),
     }
 }
 
@@ -100,7 +100,7 @@ fn play(entry: &[u8], work: &mut [u8]) -> Result<(SecurityStatus, usize), Fault>
     let (status, token) = tell(entry)?;
     let n = token.len();
     if work.len() < n {
-        return Err(refuse(ErrorKind::BufferTooSmall));
+        return Err(Layer::Mechanism.fault(ErrorKind::BufferTooSmall));
     }
     work[0..n].copy_from_slice(token);
     Ok((status, n))
@@ -124,7 +124,7 @@ impl<'a> Sealer for Script<'a> {
         if takes(data, mic) {
             Ok(())
         } else {
-            Err(refuse(ErrorKind::MessageAltered))
+            Err(Layer::Mechanism.fault(ErrorKind::MessageAltered))
         }
     }
 }
@@ -156,7 +156,7 @@ impl<'a> Mechanism for Script<'a> {
         work: &mut [u8],
     ) -> Result<(SecurityStatus, usize), Fault> {
         if self.pos >= self.book.len() {
-            return Err(refuse(ErrorKind::OutOfSequence));
+            return Err(Layer::Mechanism.fault(ErrorKind::OutOfSequence));
         }
         match self.book.entry(self.pos) {
             Some(entry) => {
@@ -164,7 +164,7 @@ impl<'a> Mechanism for Script<'a> {
                 self.move_on(answer);
                 answer
             }
-            None => Err(refuse(ErrorKind::OutOfSequence)),
+            None => Err(Layer::Mechanism.fault(ErrorKind::OutOfSequence)),
         }
     }
 

@@ -1,50 +1,37 @@
-ghost use Rattle.std.specs.Prelude.{◌≡◌, ◌≤◌, length};
-ghost use Rattle.mechanism.specs.Identities.{held, short, part_read, part_of, identity_read, identity_of};
+ghost use Rattle.std.specs.Prelude.{◌≡◌, take};
+ghost use Rattle.mechanism.specs.Identities.{held, cut, part_read, part_of, identity_read, identity_of};
 
+use crate::bytes::padded;
 use crate::identity::{Identity, Part};
 use sspi::{ErrorKind, Fault, Layer};
-
-const TOO_LONG: Fault = Fault {
-    kind: ErrorKind::InvalidParameter,
-    layer: Layer::Negotiation,
-};
-
-// Whether the bytes are few enough for a part.
-fn is_short(bytes: &[u8]) -> bool
-    ensures { result ≡ short bytes.now }
-{
-    bytes.len() <= 64
-}
 
 impl Part {
     // A copy of the bytes, refused if there are more than 64.
     pub fn new(bytes: &[u8]) -> Result<Part, Fault>
         ensures { part_read result ≡ part_of bytes.now }
     {
-        if !is_short(bytes) {
-            return Err(TOO_LONG);
+        if bytes.len() > 64 {
+            return Err(Layer::Negotiation.fault(ErrorKind::InvalidParameter));
         }
-        Ok(Part::copied(bytes))
+        Ok(Part::cut(bytes))
     }
 
-    fn copied(bytes: &[u8]) -> Part
-        requires { length bytes.now ≤ 64 }
-        ensures { held result ≡ bytes.now }
+    // A copy of the first 64 bytes.
+    pub fn cut(bytes: &[u8]) -> Part
+        ensures zeros_behind { result ≡ cut bytes.now }
+        ensures holds { held result ≡ take 64 bytes.now }
     {
-        let len = bytes.len();
-        let mut part = Part {
-            bytes: [0; 64],
-            len,
-        };
-        part.bytes[0..len].copy_from_slice(bytes);
-        part
+        Part {
+            bytes: padded(bytes),
+            len: bytes.len().min(64),
+        }
     }
 
     // What the part holds.
     pub fn as_slice(&self) -> &[u8]
         ensures { result.now ≡ held self.now }
     {
-        &self.bytes[0..self.len]
+        &self.bytes[..self.len]
     }
 }
 
@@ -59,14 +46,11 @@ impl Identity {
     ) -> Result<Identity, Fault>
         ensures { identity_read result ≡ identity_of (record { user = user.entry.now; account = account.now; domain = domain.now; secret = secret.now; kdc = kdc }) }
     {
-        if !is_short(user) || !is_short(account) || !is_short(domain) || !is_short(secret) {
-            return Err(TOO_LONG);
-        }
         Ok(Identity {
-            user: Part::copied(user),
-            account: Part::copied(account),
-            domain: Part::copied(domain),
-            secret: Part::copied(secret),
+            user: Part::new(user)?,
+            account: Part::new(account)?,
+            domain: Part::new(domain)?,
+            secret: Part::new(secret)?,
             kdc,
         })
     }

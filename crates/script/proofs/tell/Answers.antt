@@ -1,4 +1,5 @@
-use Rattle.std.proofs.Common.{Ok, Err, sym, refl, ap, ◌∙◌}
+use Rattle.std.proofs.Common.{rules, ◌≡◌, Ok, Err, sym, refl, ap, ◌∙◌}
+use Rattle.mechanism.specs.Promises.{refusal}
 use Rattle.script.proofs.Telling.{told_at}
 use Rattle.script.proofs.tell.Goals as goal
 
@@ -9,5 +10,6 @@ returns-in-Some c =
 
 pub returns-in-None : goal.returns-in-None
 returns-in-None c =
-    ap Err c.refuse-in-None.ensures
+    let e : c.fault-in-None.result ≡ refusal c.fault_kind.result = search rules in
+    ap Err e
     ∙ told_at c.args.entry.now c.number_of-number.result _ _ c.if-entry-lt4.false c.number_of-number.ensures (sym c.in-None.is ∙ c.from_number.ensures.answer) c.fault_kind.ensures
