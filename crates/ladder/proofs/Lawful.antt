@@ -1,5 +1,5 @@
 -- The laws of the steps.
-use Rattle.std.proofs.Common.{◌≡◌, ℕ, ◌+◌, ◌≤◌, Bool, true, false, cond, eqb, ltb, List, [], length, Some, None, Ok, Err, Option, sym, refl, ap, subst, zero-le, arith, length-take}
+use Rattle.std.proofs.Common.{◌≡◌, ℕ, ◌+◌, ◌≤◌, eqb, ltb, List, [], length, Some, None, Ok, Err, Option, sym, refl, ap, zero-le, arith, length-take}
 use Rattle.ladder.specs.Mics.{ladder_sealing}
 use Rattle.ladder.specs.Rungs.{started, accepted, called}
 use Rattle.ladder.specs.Steps.{Given, given, Outcome, refused, climbed, onward, walked, stepped, rests, begins, is_leg, topped, leg_bytes, status_at, name_heard, name_in, allowed_next, ladder_stepping}
@@ -15,16 +15,13 @@ use Rattle.sspi.specs.declared.security_status.SecurityStatus.{SecurityStatus}
 use Rattle.sspi.specs.declared.security_status.SecurityStatus.TheVariants.{Ok as Done}
 use Rattle.std.proofs.lemmas.Bool.{cond_both, ltb-false}
 
-ok_not_err : {X : Type 0} (x : X) (e : Fault) → Ok x ≡ Err e → ⊥
-ok_not_err x e h = let z : ◌≡◌ {A = ℕ} 0 1 = cc in omega arith
-
 refusal_layer : {X : Type 0} (k : ErrorKind) → OfMechanism {X = X} (Err (refusal k))
 refusal_layer {X} k e h =
     let f : refusal k ≡ e = cc in
     ap (λ (g : Fault). g.layer) (sym f)
 
 ok_layer : {X : Type 0} (x : X) → OfMechanism (Ok x)
-ok_layer x e h = absurd (ok_not_err x e h)
+ok_layer x e h = cc
 
 -- what the laws ask of a step from a state with a working buffer of a length
 record Fine (s : Ladder) (w : ℕ) (o : Outcome) : Type 0 where
@@ -34,21 +31,20 @@ record Fine (s : Ladder) (w : ℕ) (o : Outcome) : Type 0 where
 
 fine_refused : (s : Ladder) (w : ℕ) (k : ErrorKind) → Fine s w (refused s k)
 fine_refused s w k = record {
-  fits = λ st token h. absurd (ok_not_err (st, token) (refusal k) (sym h));
+  fits = λ st token h. cc;
   layer = refusal_layer k;
   small = λ h. refl;
 }
 
 fine_ok : (s t : Ladder) (w : ℕ) (st : SecurityStatus) (token : List ℕ) → length token ≤ w → Fine s w (record { next = t; answer = Ok (st, token) })
 fine_ok s t w st token l = record {
-  fits = λ st' token' h. (let p : ◌≡◌ {A = SecurityStatus × List ℕ} (st, token) (st', token') = cc in let e : token ≡ token' = ap (λ (q : SecurityStatus × List ℕ). q.1) p in subst (λ (xs : List ℕ). length xs ≤ w) e l);
+  fits = λ st' token' h.
+      (let p : ◌≡◌ {A = SecurityStatus × List ℕ} (st, token) (st', token') = cc in
+      let e : length token ≡ length token' = ap (λ (q : SecurityStatus × List ℕ). length q.1) p in
+      omega arith);
   layer = ok_layer (st, token);
-  small = λ h. absurd (ok_not_err (st, token) too_small h);
+  small = λ h. cc;
 }
-
-fine_if : (s : Ladder) (w : ℕ) (b : Bool) (o p : Outcome) → Fine s w o → Fine s w p → Fine s w (cond b o p)
-fine_if s w true o p f g = f
-fine_if s w false o p f g = g
 
 fine_climbed : (s : Ladder) (g : Given) (w n : ℕ) → Fine s w (climbed s g w n)
 fine_climbed s g w n =
@@ -58,21 +54,20 @@ fine_climbed s g w n =
 
 fine_onward : (s : Ladder) (g : Given) (w n : ℕ) → Fine s w (onward s g w n)
 fine_onward s g w n =
-    fine_if s w (eqb n s.legs) _ _ (fine_ok s (topped s g.by g.secret g.input) w Done [] zero-le) (fine_climbed s g w (n + 1))
+    cond_both (eqb n s.legs) _ _ (Fine s w) (λ _. fine_ok s (topped s g.by g.secret g.input) w Done [] zero-le) (λ _. fine_climbed s g w (n + 1))
 
 fine_walked : (s : Ladder) (g : Given) (w : ℕ) → Fine s w (walked s g w)
 fine_walked s g w =
-    fine_if s w (rests s g.input) _ _ (fine_ok s (accepted s g.by g.secret s.height) w Done [] zero-le)
-    (fine_if s w (begins s g.by) _ _ (fine_onward s g w 0)
-    (fine_if s w (is_leg s g.by g.input) _ _ (fine_onward s g w (s.height + 1)) (fine_refused s w IllegalMessage)))
+    cond_both (rests s g.input) _ _ (Fine s w) (λ _. fine_ok s (accepted s g.by g.secret s.height) w Done [] zero-le)
+    (λ _. cond_both (begins s g.by) _ _ (Fine s w) (λ _. fine_onward s g w 0)
+    (λ _. cond_both (is_leg s g.by g.input) _ _ (Fine s w) (λ _. fine_onward s g w (s.height + 1)) (λ _. fine_refused s w IllegalMessage)))
 
 name_short : (o : Option Part) (name : List ℕ) → name_in o ≡ Ok name → length name ≤ 64
-name_short None name h = absurd (ok_not_err name (refusal NoContext) (sym h))
+name_short None name h = cc
 name_short (Some p) name h =
     let e : held p ≡ name = cc in
     let f : p.len ≤ 64 = p.fits in
-    let l : length (held p) ≤ 64 = simp length-take (omega arith) in
-    subst (λ (xs : List ℕ). length xs ≤ 64) e l
+    rw (← e) (simp length-take (omega arith))
 
 name_layer_lem : (o : Option Part) → OfMechanism (name_in o)
 name_layer_lem None = refusal_layer NoContext

@@ -24,6 +24,7 @@ impl Ladder {
     }
 
     // The key in use.
+    #[tactic(auto, using(crate::proofs::Paddings::padded_whole, crate::proofs::Paddings::padded_if))]
     fn key(&self) -> [u8; 8]
         ensures { result ≡ key_for self.now self.now.side }
     {
@@ -34,15 +35,16 @@ impl Ladder {
     }
 
     // Writes the MIC that the side makes over the data, and gives its length.
+    #[tactic(auto, using(crate::proofs::Puts::joined_back))]
     fn put_mic(&self, maker: Side, data: &[u8], mic: &mut [u8; 160]) -> usize
         requires { length «data».now ≤ 128 }
         ensures count { result ≤ 160 }
         ensures front { take result mic.new ≡ mic_by self.now maker «data».now }
         ensures back { drop result mic.new ≡ drop result mic.old }
     {
-        let key = self.key();
-        mic[..8].copy_from_slice(&key);
-        8 + put_headed(&mut mic[8..], side_byte(maker), data)
+        let (key, rest) = mic.split_at_mut(8);
+        key.copy_from_slice(&self.key());
+        8 + put_headed(rest, side_byte(maker), data)
     }
 }
 

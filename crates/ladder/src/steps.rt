@@ -22,14 +22,10 @@ impl<'a> Turn<'a> {
     fn new(side: Side, identity: Option<&'a Identity>, input: &'a [u8]) -> Turn<'a>
         ensures { read result ≡ given side (who_if identity.entry) input.now }
     {
-        let (account, secret): (&[u8], &[u8]) = match identity {
-            Some(who) => (who.account.as_slice(), who.secret.as_slice()),
-            None => (&[], &[]),
-        };
         Turn {
             side,
-            account,
-            secret,
+            account: identity.map_or(&[], |who| who.account.as_slice()),
+            secret: identity.map_or(&[], |who| who.secret.as_slice()),
             input,
         }
     }
@@ -86,9 +82,8 @@ impl Ladder {
         ensures { result ≡ is_leg self.now turn.now.side turn.now.input.now }
     {
         self.height < self.legs
-            && 0 < turn.input.len()
             && turn.input.len() <= turn.longest_heard()
-            && turn.input[0] == self.height + 1
+            && turn.input.first() == Some(&(self.height + 1))
     }
 
     // What a step answers that leaves the ladder as it stands.
@@ -211,6 +206,7 @@ impl Mechanism for Ladder {
         Ok(())
     }
 
+    #[tactic(auto, using(crate::proofs::Lawful::lawful))]
     fn lawful_steps(&self) -> u8 {
         0
     }

@@ -1,5 +1,5 @@
 -- What it tells that data may be sealed, and that a MIC was accepted.
-use Rattle.std.proofs.Common.{◌≡◌, ℕ, ◌≤◌, Bool, true, false, cond, ltb, List, length, is_ok, Ok, Err, Result, sym, refl, ap, ◌∙◌, true≢false}
+use Rattle.std.proofs.Common.{◌≡◌, ℕ, ◌≤◌, Bool, true, false, cond, ltb, List, length, is_ok, Ok, Err, Result, sym, refl, ap, ◌∙◌}
 use Rattle.mechanism.specs.Laws.{LawfulSealing}
 use Rattle.mechanism.specs.Meaning.{Sealing}
 use Rattle.mechanism.specs.Promises.{refusal, may_seal, make_answer, check_answer, Carries}
@@ -8,25 +8,22 @@ use Rattle.sspi.specs.declared.error_kind.ErrorKind.TheVariants.{InvalidParamete
 use Rattle.sspi.specs.declared.fault.Fault.{Fault}
 use Rattle.std.proofs.lemmas.Bool.{ltb-false}
 
-err_ok : {X : Type 0} (e : Fault) (x : X) → Err e ≡ Ok x → ⊥
-err_ok e x h = true≢false (sym (ap is_ok h))
-
 -- an answer behind the tests: both were passed
 pub passed : {X : Type 0} (up : Bool) (x : List ℕ) (r : Result X Fault) (v : X) → and_then (may_seal up x) (λ _. r) ≡ Ok v → (up ≡ true) × (length x ≤ 128) × (r ≡ Ok v)
 passed {X} up x r v h = by (ltb 128 (length x)) up refl h
   where
     by : (t u : Bool) → ltb 128 (length x) ≡ t → and_then (cond t (Err (refusal InvalidParameter)) (cond u (Ok (tt {0})) (Err (refusal NoContext)))) (λ _. r) ≡ Ok v
         → (u ≡ true) × (length x ≤ 128) × (r ≡ Ok v)
-    by true u e k = absurd (err_ok (refusal InvalidParameter) v k)
+    by true u e k = cc
     by false true e k = (refl, ltb-false 128 (length x) e, k)
-    by false false e k = absurd (err_ok (refusal NoContext) v k)
+    by false false e k = cc
 
 pub may_short : (up : Bool) (x : List ℕ) (u : Unit {0}) → Ok u ≡ may_seal up x → length x ≤ 128
 may_short up x u h = (passed up x (Ok u) u (ap (λ v. and_then v (λ _. Ok u)) (sym h))).1
 
 taken : (b : Bool) (u : Unit {0}) → cond b (Ok (tt {0})) (Err (refusal MessageAltered)) ≡ Ok u → b ≡ true
 taken true u h = refl
-taken false u h = absurd (err_ok (refusal MessageAltered) u h)
+taken false u h = cc
 
 -- a MIC that was made and then accepted was made over the same data
 pub same_data : {S : Type 0} (m : Sealing S) → LawfulSealing m → (s t : S) (x y mic : List ℕ) (u : Unit {0}) → make_answer m s x ≡ Ok mic → check_answer m t y mic ≡ Ok u → x ≡ y

@@ -5,6 +5,7 @@ use crate::mechanism::Sealer;
 use sspi::Fault;
 
 // Makes a MIC over some data with one value, and checks it over some data with another. It is accepted only if the data are the same.
+#[tactic(auto, using(crate::proofs::Sealable::same_data, crate::proofs::Sealable::carries))]
 pub fn carry<M: Sealer>(
     maker: &mut M,
     checker: &mut M,
@@ -16,5 +17,5 @@ pub fn carry<M: Sealer>(
 {
     let mut mic = [0; 160];
     let n = maker.make(sent, &mut mic)?;
-    checker.check(heard, &mic[0..n])
+    checker.check(heard, &mic[..n])
 }

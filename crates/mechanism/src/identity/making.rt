@@ -17,6 +17,7 @@ impl Part {
     }
 
     // A copy of the first 64 bytes.
+    #[tactic(auto, using(crate::proofs::Paddings::take_padded))]
     pub fn cut(bytes: &[u8]) -> Part
         ensures zeros_behind { result ≡ cut bytes.now }
         ensures holds { held result ≡ take 64 bytes.now }
