@@ -1,8 +1,9 @@
 -- The laws of the steps.
 use Rattle.std.proofs.Common.{◌≡◌, ℕ, ◌+◌, ◌≤◌, eqb, ltb, List, [], length, Some, None, Ok, Err, Option, sym, refl, ap, zero-le, arith, length-take}
+use Rattle.ladder.specs.Givens.{Given, given}
 use Rattle.ladder.specs.Mics.{ladder_sealing}
 use Rattle.ladder.specs.Rungs.{started, accepted, called}
-use Rattle.ladder.specs.Steps.{Given, given, Outcome, refused, climbed, onward, walked, stepped, rests, begins, is_leg, topped, leg_bytes, status_at, name_heard, name_in, allowed_next, ladder_stepping}
+use Rattle.ladder.specs.Steps.{Outcome, refused, climbed, onward, walked, stepped, rests, begins, is_leg, topped, leg_bytes, status_at, name_heard, name_in, allowed_next, ladder_stepping}
 use Rattle.ladder.specs.declared.Ladder.{Ladder}
 use Rattle.mechanism.specs.Identities.{held}
 use Rattle.mechanism.specs.Laws.{LawfulStepping, OfMechanism, too_small}
@@ -50,17 +51,17 @@ fine_climbed : (s : Ladder) (g : Given) (w n : ℕ) → Fine s w (climbed s g w 
 fine_climbed s g w n =
     cond_both (ltb w (length (leg_bytes g n))) _ _ (Fine s w)
     (λ _. fine_refused s w BufferTooSmall)
-    (λ h. fine_ok s (called (accepted s g.by g.secret n) (name_heard g.by g.account g.input)) w (status_at n s.legs) (leg_bytes g n) (ltb-false w (length (leg_bytes g n)) h))
+    (λ h. fine_ok s (called (accepted s g n) (name_heard g.by g.account g.input)) w (status_at n s.legs) (leg_bytes g n) (ltb-false w (length (leg_bytes g n)) h))
 
 fine_onward : (s : Ladder) (g : Given) (w n : ℕ) → Fine s w (onward s g w n)
 fine_onward s g w n =
-    cond_both (eqb n s.legs) _ _ (Fine s w) (λ _. fine_ok s (topped s g.by g.secret g.input) w Done [] zero-le) (λ _. fine_climbed s g w (n + 1))
+    cond_both (eqb n s.legs) _ _ (Fine s w) (λ _. fine_ok s (topped s g) w Done [] zero-le) (λ _. fine_climbed s g w (n + 1))
 
 fine_walked : (s : Ladder) (g : Given) (w : ℕ) → Fine s w (walked s g w)
 fine_walked s g w =
-    cond_both (rests s g.input) _ _ (Fine s w) (λ _. fine_ok s (accepted s g.by g.secret s.height) w Done [] zero-le)
+    cond_both (rests s g.input) _ _ (Fine s w) (λ _. fine_ok s (accepted s g s.height) w Done [] zero-le)
     (λ _. cond_both (begins s g.by) _ _ (Fine s w) (λ _. fine_onward s g w 0)
-    (λ _. cond_both (is_leg s g.by g.input) _ _ (Fine s w) (λ _. fine_onward s g w (s.height + 1)) (λ _. fine_refused s w IllegalMessage)))
+    (λ _. cond_both (is_leg s g) _ _ (Fine s w) (λ _. fine_onward s g w (s.height + 1)) (λ _. fine_refused s w IllegalMessage)))
 
 name_short : (o : Option Part) (name : List ℕ) → name_in o ≡ Ok name → length name ≤ 64
 name_short None name h = cc

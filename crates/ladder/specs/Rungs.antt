@@ -1,6 +1,7 @@
 -- The states of a ladder, and what moves it: a number of legs, the last leg seen or made, who took the last accepted step, the client's
 -- key, the key of the first identity that is allowed, and the name in the last client's leg.
 use Rattle.std.specs.Prelude.{ℕ, Bool, cond, ◌&&◌, List, replicate, Some, None, ◌==◌, nat_le}
+use Rattle.ladder.specs.Givens.{Given}
 use Rattle.ladder.specs.Keys.{key_of}
 use Rattle.ladder.specs.declared.Ladder.{Ladder}
 use Rattle.mechanism.specs.Identities.{cut}
@@ -30,9 +31,9 @@ abbrev pub next_client_key : Ladder → Side → List ℕ → List ℕ
 next_client_key s Client secret = key_of secret
 next_client_key s Server secret = s.client_key
 
--- a step of a side with a secret was accepted, and the last leg is now n
-abbrev pub accepted : Ladder → Side → List ℕ → ℕ → Ladder
-accepted s by secret n = record s { height = n; side = by; client_key = next_client_key s by secret }
+-- a step was accepted, and the last leg is now n
+abbrev pub accepted : Ladder → Given → ℕ → Ladder
+accepted s g n = record s { height = n; side = g.by; client_key = next_client_key s g.by g.secret }
 
 -- a client's leg held this name, of which 64 bytes are kept
 abbrev pub called : Ladder → List ℕ → Ladder

@@ -1,6 +1,7 @@
 -- A step on the ladder. Legs are numbered from 1: a client's leg is its number and the name of an account, a server's leg the number alone.
 use Rattle.std.specs.Prelude.{◌≡◌, ℕ, ◌+◌, Bool, false, cond, ◌&&◌, List, [], ◌∷◌, length, drop, Some, None, Ok, Err, Option, Result, ◌==◌, nat_le, nat_lt, slice_index}
 use Rattle.std.specs.Option.{is_some}
+use Rattle.ladder.specs.Givens.{Given, given}
 use Rattle.ladder.specs.Rungs.{started, is_up, accepted, called, allowing}
 use Rattle.ladder.specs.declared.Ladder.{Ladder}
 use Rattle.mechanism.specs.Identities.{Who, held}
@@ -14,18 +15,6 @@ use Rattle.sspi.specs.declared.error_kind.ErrorKind.TheVariants.{IllegalMessage,
 use Rattle.sspi.specs.declared.fault.Fault.{Fault}
 use Rattle.sspi.specs.declared.security_status.SecurityStatus.{SecurityStatus}
 use Rattle.sspi.specs.declared.security_status.SecurityStatus.TheVariants.{Ok as Done, ContinueNeeded}
-
--- what a step is given: who takes it, account and secret of the identity, and the input
-pub record Given : Type 0 where
-  pub by : Side
-  pub account : List ℕ
-  pub secret : List ℕ
-  pub input : List ℕ
-
--- account and secret are empty without an identity
-abbrev pub given : Side → Option Who → List ℕ → Given
-given by None x = record { by = by; account = []; secret = []; input = x }
-given by (Some i) x = record { by = by; account = i.account; secret = i.secret; input = x }
 
 -- the state after a step, and its answer with the token
 pub record Outcome : Type 0 where
@@ -55,8 +44,8 @@ longest_heard Client = 1
 longest_heard Server = 65
 
 -- the next leg of the other side
-abbrev pub is_leg : Ladder → Side → List ℕ → Bool
-is_leg s by x = nat_lt s.height s.legs && (nat_lt 0 (length x) && (nat_le (length x) (longest_heard by) && slice_index x 0 == s.height + 1))
+abbrev pub is_leg : Ladder → Given → Bool
+is_leg s g = nat_lt s.height s.legs && (nat_lt 0 (length g.input) && (nat_le (length g.input) (longest_heard g.by) && slice_index g.input 0 == s.height + 1))
 
 -- what a leg of a side holds behind its number
 abbrev pub behind : Side → List ℕ → List ℕ
@@ -71,10 +60,14 @@ abbrev pub name_heard : Side → List ℕ → List ℕ → List ℕ
 name_heard Client account x = account
 name_heard Server account x = drop 1 x
 
--- the top is reached by a leg that was heard, which a client made if a server heard it
-abbrev pub topped : Ladder → Side → List ℕ → List ℕ → Ladder
-topped s Client secret x = accepted s Client secret s.legs
-topped s Server secret x = called (accepted s Server secret s.legs) (drop 1 x)
+-- a leg that a server heard was a client's, whose name is kept
+abbrev pub name_noted : Side → Ladder → List ℕ → Ladder
+name_noted Client s x = s
+name_noted Server s x = called s (drop 1 x)
+
+-- the top is reached by a leg that was heard
+abbrev pub topped : Ladder → Given → Ladder
+topped s g = name_noted g.by (accepted s g s.legs) g.input
 
 abbrev pub status_at : ℕ → ℕ → SecurityStatus
 status_at n legs = cond (n == legs) Done ContinueNeeded
@@ -82,19 +75,19 @@ status_at n legs = cond (n == legs) Done ContinueNeeded
 -- leg n is made, if it fits
 abbrev pub climbed : Ladder → Given → ℕ → ℕ → Outcome
 climbed s g w n = cond (nat_lt w (length (leg_bytes g n))) (refused s BufferTooSmall) (record {
-  next = called (accepted s g.by g.secret n) (name_heard g.by g.account g.input);
+  next = called (accepted s g n) (name_heard g.by g.account g.input);
   answer = Ok (status_at n s.legs, leg_bytes g n);
 })
 
 -- leg n is the last that was seen
 abbrev pub onward : Ladder → Given → ℕ → ℕ → Outcome
-onward s g w n = cond (n == s.legs) (at_top (topped s g.by g.secret g.input)) (climbed s g w (n + 1))
+onward s g w n = cond (n == s.legs) (at_top (topped s g)) (climbed s g w (n + 1))
 
 abbrev pub heard : Ladder → Given → ℕ → Outcome
-heard s g w = cond (is_leg s g.by g.input) (onward s g w (s.height + 1)) (refused s IllegalMessage)
+heard s g w = cond (is_leg s g) (onward s g w (s.height + 1)) (refused s IllegalMessage)
 
 abbrev pub walked : Ladder → Given → ℕ → Outcome
-walked s g w = cond (rests s g.input) (at_top (accepted s g.by g.secret s.height)) (cond (begins s g.by) (onward s g w 0) (heard s g w))
+walked s g w = cond (rests s g.input) (at_top (accepted s g s.height)) (cond (begins s g.by) (onward s g w 0) (heard s g w))
 
 abbrev pub stepped : Ladder → Side → Option Who → List ℕ → ℕ → Outcome
 stepped s by i x w = walked s (given by i x) w

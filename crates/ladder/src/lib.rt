@@ -8,6 +8,7 @@ use mechanism::{Part, Side};
 mod bytes;
 mod seals;
 mod steps;
+mod turns;
 
 // A mechanism that climbs a ladder of legs, which client and server make in turn; at its top the session is up.
 #[derive(Clone, Copy)]

@@ -1,66 +1,12 @@
 ghost use Rattle.std.specs.Prelude.{◌≡◌, ◌≤◌, length};
 ghost use Rattle.ladder.specs.Rungs.{accepted, called};
-ghost use Rattle.ladder.specs.Steps.{given, rests, begins, longest_heard, is_leg, behind, name_heard, topped, status_at, climbed, onward, Did, ladder_stepping};
-ghost use Rattle.ladder.specs.Turns.{read};
-ghost use Rattle.mechanism.specs.Identities.{who_if};
+ghost use Rattle.ladder.specs.Steps.{rests, begins, is_leg, name_heard, topped, status_at, climbed, onward, Did, ladder_stepping};
 
 use crate::Ladder;
 use crate::bytes::put_headed;
+use crate::turns::Turn;
 use mechanism::{Identity, Mechanism, Part, Side, padded};
 use sspi::{ErrorKind, Fault, Layer, SecurityStatus};
-
-// What one step is given: who takes it, account and secret of the identity, and the input.
-#[derive(Clone, Copy)]
-struct Turn<'a> {
-    side: Side,
-    account: &'a [u8],
-    secret: &'a [u8],
-    input: &'a [u8],
-}
-
-impl<'a> Turn<'a> {
-    fn new(side: Side, identity: Option<&'a Identity>, input: &'a [u8]) -> Turn<'a>
-        ensures { read result ≡ given side (who_if identity.entry) input.now }
-    {
-        Turn {
-            side,
-            account: identity.map_or(&[], |who| who.account.as_slice()),
-            secret: identity.map_or(&[], |who| who.secret.as_slice()),
-            input,
-        }
-    }
-
-    // What the side's leg holds behind its number.
-    fn behind(&self) -> &'a [u8]
-        ensures { result.now ≡ behind self.now.side self.now.account.now }
-    {
-        match self.side {
-            Side::Client => self.account,
-            Side::Server => &[],
-        }
-    }
-
-    // The name in the client's leg, which the client makes and the server has heard.
-    fn name(&self) -> &'a [u8]
-        ensures { result.now ≡ name_heard self.now.side self.now.account.now self.now.input.now }
-    {
-        match (self.side, self.input) {
-            (Side::Client, _) => self.account,
-            (Side::Server, [_, name @ ..]) => name,
-            (Side::Server, []) => &[],
-        }
-    }
-
-    // The longest leg that the side hears.
-    fn longest_heard(&self) -> usize
-        ensures { result ≡ longest_heard self.now.side }
-    {
-        match self.side {
-            Side::Client => 1,
-            Side::Server => 65,
-        }
-    }
-}
 
 impl Ladder {
     // Whether the ladder is climbed and no leg comes.
@@ -79,7 +25,7 @@ impl Ladder {
 
     // Whether the input is the next leg of the other side.
     fn is_leg(&self, turn: &Turn) -> bool
-        ensures { result ≡ is_leg self.now turn.now.side turn.now.input.now }
+        ensures { result ≡ is_leg self.now turn.now }
     {
         self.height < self.legs
             && turn.input.len() <= turn.longest_heard()
@@ -99,7 +45,7 @@ impl Ladder {
 
     // Notes an accepted step, after which the last leg is `leg`.
     fn accept(&mut self, turn: &Turn, leg: u8)
-        ensures { self.new ≡ accepted self.old turn.now.side turn.now.secret.now leg }
+        ensures { self.new ≡ accepted self.old turn.now leg }
     {
         if turn.side == Side::Client {
             self.client_key = padded(turn.secret);
@@ -110,14 +56,14 @@ impl Ladder {
 
     // Keeps the name in a client's leg.
     fn call(&mut self, turn: &Turn)
-        ensures { self.new ≡ called self.old (name_heard turn.now.side turn.now.account.now turn.now.input.now) }
+        ensures { self.new ≡ called self.old (name_heard turn.now.by turn.now.account turn.now.input) }
     {
         self.account = Some(Part::cut(turn.name()));
     }
 
     // Reaches the top by a leg that was heard.
     fn top(&mut self, turn: &Turn)
-        ensures { self.new ≡ topped self.old turn.now.side turn.now.secret.now turn.now.input.now }
+        ensures { self.new ≡ topped self.old turn.now }
     {
         self.accept(turn, self.legs);
         if turn.side == Side::Server {
@@ -132,7 +78,7 @@ impl Ladder {
         work: &mut [u8],
         leg: u8,
     ) -> Result<(SecurityStatus, usize), Fault>
-        ensures { Did (climbed self.old (read turn.now) (length work.old) leg) self.new work.old work.new result }
+        ensures { Did (climbed self.old turn.now (length work.old) leg) self.new work.old work.new result }
     {
         let tail = turn.behind();
         if work.len() <= tail.len() {
@@ -152,7 +98,7 @@ impl Ladder {
         seen: u8,
     ) -> Result<(SecurityStatus, usize), Fault>
         requires { seen ≤ self.old.legs }
-        ensures { Did (onward self.old (read turn.now) (length work.old) seen) self.new work.old work.new result }
+        ensures { Did (onward self.old turn.now (length work.old) seen) self.new work.old work.new result }
     {
         if seen == self.legs {
             self.top(turn);

@@ -2,7 +2,7 @@ ghost use Rattle.std.specs.Prelude.{◌≤◌};
 
 mod making;
 
-// A byte string of at most 64 bytes.
+// A byte string of at most 64 bytes, in fixed memory.
 #[derive(Clone, Copy)]
 pub struct Part {
     bytes: [u8; 64],
