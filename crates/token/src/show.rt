@@ -94,7 +94,7 @@ fn named(rt: &impl Print, field: &str, value: &[u8], word: Option<&str>) -> io::
 }
 
 fn mech_word(oid: &[u8]) -> Option<&'static str> {
-    match Mech::from_oid(oid)? {
+    match Mech::try_from(oid).ok()? {
         Mech::Spnego => Some("SPNEGO"),
         Mech::MsKrb5 => Some("ms_krb5"),
         Mech::Krb5 => Some("krb5"),
@@ -103,7 +103,7 @@ fn mech_word(oid: &[u8]) -> Option<&'static str> {
 }
 
 fn state_word(element: &[u8]) -> Option<&'static str> {
-    match NegState::from_bytes(element)? {
+    match NegState::try_from(element).ok()? {
         NegState::Complete => Some("complete"),
         NegState::Incomplete => Some("incomplete"),
         NegState::Reject => Some("reject"),
@@ -114,8 +114,8 @@ fn state_word(element: &[u8]) -> Option<&'static str> {
 fn refused(rt: &impl Print, number: u64, fault: Fault) -> io::Result<()> {
     println!(rt;
         "token {number}: refused {:08X} {}",
-        fault.kind.number(),
-        fault.layer.name()
+        u32::from(fault.kind),
+        fault.layer
     )
 }
 
