@@ -1,5 +1,5 @@
 -- The byte strings that have names.
-use Rattle.std.specs.Prelude.{ℕ, cond, List, [], ◌∷◌, Some, None, Option, Result, ◌==◌}
+use Rattle.std.specs.Prelude.{ℕ, cond, List, [], ◌∷◌, Some, None, codes, Option, Result, ◌==◌}
 use Rattle.std.specs.Str.{bytes_eq}
 use Rattle.std.specs.List.{find}
 use Rattle.std.specs.Option.{ok_or}
@@ -20,6 +20,13 @@ mech_oid Ntlm = 0x2B ∷ 0x06 ∷ 0x01 ∷ 0x04 ∷ 0x01 ∷ 0x82 ∷ 0x37 ∷ 0
 unfoldable pub mech_of : List ℕ → Option Mech
 mech_of oid = find (λ m. bytes_eq oid (mech_oid m)) (Spnego ∷ MsKrb5 ∷ Krb5 ∷ Ntlm ∷ [])
 
+-- the word for a mechanism
+abbrev pub mech_word : Mech → List ℕ
+mech_word Spnego = codes "SPNEGO"
+mech_word MsKrb5 = codes "ms_krb5"
+mech_word Krb5 = codes "krb5"
+mech_word Ntlm = codes "NTLM"
+
 -- the number of a mechanism, where an answer names one by a plain number
 abbrev pub mech_number : Mech → ℕ
 mech_number Spnego = 0
@@ -37,6 +44,13 @@ state_bytes Complete = 0x0A ∷ 0x01 ∷ 0x00 ∷ []
 state_bytes Incomplete = 0x0A ∷ 0x01 ∷ 0x01 ∷ []
 state_bytes Reject = 0x0A ∷ 0x01 ∷ 0x02 ∷ []
 state_bytes RequestMic = 0x0A ∷ 0x01 ∷ 0x03 ∷ []
+
+-- the word for a state
+abbrev pub state_word : NegState → List ℕ
+state_word Complete = codes "complete"
+state_word Incomplete = codes "incomplete"
+state_word Reject = codes "reject"
+state_word RequestMic = codes "request-mic"
 
 -- the state that an element says
 unfoldable pub state_of : List ℕ → Option NegState

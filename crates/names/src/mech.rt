@@ -1,7 +1,8 @@
 ghost use Rattle.std.specs.Prelude.{◌≡◌, Some, Ok};
-ghost use Rattle.names.specs.Names.{mech_oid, mech_of, mech_number, mech_numbered, named};
+ghost use Rattle.names.specs.Names.{mech_oid, mech_of, mech_number, mech_numbered, mech_word, named};
 
 use crate::named::{Named, Unnamed, with_spelling};
+use std::fmt;
 
 const SPNEGO: [u8; 6] = [0x2b, 6, 1, 5, 5, 2];
 
@@ -41,6 +42,19 @@ impl Mech {
         ensures { result.now ≡ mech_oid self }
     {
         self.spelled()
+    }
+}
+
+impl fmt::Display for Mech {
+    ghost output = { λ mech. Some (mech_word mech) };
+
+    fn fmt<W: fmt::Write>(&self, f: &mut fmt::Formatter<W>) -> fmt::Result {
+        f.write_str(match self {
+            Mech::Spnego => "SPNEGO",
+            Mech::MsKrb5 => "ms_krb5",
+            Mech::Krb5 => "krb5",
+            Mech::Ntlm => "NTLM",
+        })
     }
 }
 

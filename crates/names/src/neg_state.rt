@@ -1,7 +1,8 @@
 ghost use Rattle.std.specs.Prelude.{◌≡◌, Some, Ok};
-ghost use Rattle.names.specs.Names.{state_bytes, state_of, named};
+ghost use Rattle.names.specs.Names.{state_bytes, state_of, state_word, named};
 
 use crate::named::{Named, Unnamed, with_spelling};
+use std::fmt;
 
 const COMPLETE: [u8; 3] = [0x0a, 1, 0];
 
@@ -46,6 +47,19 @@ impl NegState {
         ensures { result.now ≡ state_bytes self }
     {
         self.spelled()
+    }
+}
+
+impl fmt::Display for NegState {
+    ghost output = { λ state. Some (state_word state) };
+
+    fn fmt<W: fmt::Write>(&self, f: &mut fmt::Formatter<W>) -> fmt::Result {
+        f.write_str(match self {
+            NegState::Complete => "complete",
+            NegState::Incomplete => "incomplete",
+            NegState::Reject => "reject",
+            NegState::RequestMic => "request-mic",
+        })
     }
 }
 
