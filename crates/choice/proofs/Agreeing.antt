@@ -1,8 +1,8 @@
 -- What an initiator holds to after it heard the acceptor's choice.
-use Rattle.std.proofs.Common.{◌≡◌, ℕ, Bool, true, false, cond, not, ◌&&◌, List, [], ◌∷◌, is_some, Some, None, Ok, Err, Option, Result, sym, refl, ap, ◌∙◌, subst, true≢false}
+use Rattle.std.proofs.Common.{◌≡◌, ℕ, Bool, true, false, cond, List, is_some, Some, None, Ok, Err, Option, Result, sym, refl, ap, ◌∙◌, subst, true≢false}
 use Rattle.sspi.specs.declared.fault.Fault.{Fault}
 use Rattle.der.proofs.Ways.{err_ok, same_ok}
-use Rattle.names.proofs.Finds.{found, mech_back}
+use Rattle.names.proofs.Back.{mech_back, mech_found}
 use Rattle.names.specs.Names.{mech_oid, mech_of}
 use Rattle.names.specs.declared.mech.Mech.{Mech}
 use Rattle.names.specs.declared.mech.Mech.TheVariants.{Spnego, MsKrb5, Krb5, Ntlm}
@@ -12,7 +12,7 @@ use Rattle.packages.specs.declared.protocol.Protocol.{Protocol}
 use Rattle.packages.specs.declared.protocol.Protocol.TheVariants as protocol
 use Rattle.choice.specs.Agreeing.{agreed_kerberos, agreed_ntlm, agreed_on, agreed}
 use Rattle.choice.specs.Promises.{Agrees, Agreement}
-use Rattle.choice.specs.Rules.{protocol_of, is_kerberos, no_mechanism}
+use Rattle.choice.specs.Rules.{protocol_of, no_mechanism}
 use Rattle.choice.specs.declared.by_mech_type.Agreed.{Agreed}
 
 -- a test that lets through, or refuses
@@ -44,15 +44,12 @@ ntlm on guest a h =
     closes b protocol.Ntlm e = b
     closes b protocol.Pku2u e = e
 
-named : (oid : List ℕ) (m : Mech) → mech_of oid ≡ Some m → oid ≡ mech_oid m
-named oid m e = found mech_oid (Spnego ∷ MsKrb5 ∷ Krb5 ∷ Ntlm ∷ []) oid m e
-
 accepted : (oid : List ℕ) (on : PackageListConfig) (running : Protocol) (owed guest : Bool) (a : Agreed) (p : Option Mech) → mech_of oid ≡ p → agreed_on p on running owed guest ≡ Ok a
     → (m : Mech) × (oid ≡ mech_oid m) × Agrees m on a
 accepted oid on running owed guest a (Some Spnego) e h = absurd (err_ok no_mechanism a h)
-accepted oid on running owed guest a (Some MsKrb5) e h = (MsKrb5, named oid MsKrb5 e, kerberos MsKrb5 on running owed a refl h)
-accepted oid on running owed guest a (Some Krb5) e h = (Krb5, named oid Krb5 e, kerberos Krb5 on running owed a refl h)
-accepted oid on running owed guest a (Some Ntlm) e h = (Ntlm, named oid Ntlm e, ntlm on guest a h)
+accepted oid on running owed guest a (Some MsKrb5) e h = (MsKrb5, mech_found oid MsKrb5 e, kerberos MsKrb5 on running owed a refl h)
+accepted oid on running owed guest a (Some Krb5) e h = (Krb5, mech_found oid Krb5 e, kerberos Krb5 on running owed a refl h)
+accepted oid on running owed guest a (Some Ntlm) e h = (Ntlm, mech_found oid Ntlm e, ntlm on guest a h)
 accepted oid on running owed guest a None e h = absurd (err_ok no_mechanism a h)
 
 same : {X : Type 0} {x : X} (y : X) → Some x ≡ Some y → x ≡ y

@@ -1,16 +1,11 @@
 -- Looking a kind of fault up among a few.
-use Rattle.std.proofs.Common.{◌≡◌, ℕ, ◌+◌, ◌<◌, ◌≤◌, Bool, true, false, ◌||◌, eqb, ◌⊎◌, List, [], ◌∷◌, length, get_or, drop, Decides, sym, refl, ap, ◌∙◌, true≢false}
+use Rattle.std.proofs.Common.{◌≡◌, ℕ, ◌+◌, ◌<◌, ◌≤◌, Bool, false, ◌||◌, eqb, List, [], ◌∷◌, length, get_or, drop, Decides, sym, ap, ◌∙◌, true≢false}
 use Rattle.std.proofs.lemmas.List.{at_drop_more, at_drop_all}
 use Rattle.std.proofs.lemmas.Bool.Decides.{Decides-or, same_from_decides}
-use Rattle.std.proofs.lemmas.Bool.{eq-eqb, eqb-true}
-use Rattle.sspi.proofs.Finds.{some_same}
-use Rattle.sspi.proofs.KindsBack.{back}
-use Rattle.sspi.specs.Kinds.{kind_number, kind_of}
+use Rattle.sspi.proofs.Same.{same_kind}
+use Rattle.sspi.specs.Kinds.{kind_number}
 use Rattle.sspi.specs.declared.error_kind.ErrorKind.{ErrorKind}
 use Rattle.choice.specs.Fallback.{among, Among}
-
-same_kind : (x k : ErrorKind) → Decides (eqb (kind_number x) (kind_number k)) (x ≡ k)
-same_kind x k = (λ h. some_same x k (sym (back x) ∙ (ap kind_of (eqb-true (kind_number x) (kind_number k) h) ∙ back k)), λ e. eq-eqb (kind_number x) (kind_number k) (ap kind_number e))
 
 pub among_decides : (k : ErrorKind) (xs : List ErrorKind) → Decides (among k xs) (Among k xs)
 among_decides k [] = (λ e. absurd (true≢false (sym e)), λ n. absurd n)

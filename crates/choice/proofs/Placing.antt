@@ -1,10 +1,9 @@
 -- Walking a list of mechanisms to the first place of an object identifier, and the mechanisms in order of preference.
-use Rattle.std.proofs.Common.{◌≡◌, ℕ, ◌+◌, ◌<◌, ◌≤◌, Bool, true, false, cond, List, [], ◌∷◌, length, get_or, drop, Some, None, Ok, Err, Option, Result, sym, refl, ap, ◌∙◌, subst, arith}
+use Rattle.std.proofs.Common.{◌≡◌, ℕ, ◌+◌, ◌<◌, ◌≤◌, Bool, cond, List, ◌∷◌, length, get_or, drop, Some, Ok, Err, Option, Result, sym, ap, ◌∙◌}
 use Rattle.std.specs.Result.{result_ok}
 use Rattle.std.specs.Str.{bytes_eq}
 use Rattle.std.proofs.lemmas.List.{at_drop_more, at_drop_all}
 use Rattle.sspi.specs.declared.fault.Fault.{Fault}
-use Rattle.der.specs.Reading.{and_then}
 use Rattle.der.proofs.Taking.{both}
 use Rattle.der.proofs.Ways.{same_ok}
 use Rattle.mech_types.proofs.Listing.{next_shorter}

@@ -62,10 +62,10 @@ fn agree(
 ) -> Result<Agreed, Fault>
     ensures { result ≡ agreed mech_type.now enabled running mic_needed guest }
 {
-    match Mech::from_oid(mech_type) {
-        Some(Mech::MsKrb5) | Some(Mech::Krb5) => agree_kerberos(enabled, running, mic_needed),
-        Some(Mech::Ntlm) => agree_ntlm(enabled, guest),
-        Some(Mech::Spnego) | None => Err(NO_MECHANISM),
+    match Mech::try_from(mech_type) {
+        Ok(Mech::MsKrb5 | Mech::Krb5) => agree_kerberos(enabled, running, mic_needed),
+        Ok(Mech::Ntlm) => agree_ntlm(enabled, guest),
+        Ok(Mech::Spnego) | Err(_) => Err(NO_MECHANISM),
     }
 }
 

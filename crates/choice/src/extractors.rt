@@ -72,7 +72,7 @@ fn choose(
 {
     for mech in mechs {
         if let Some(i) = find(*mech, list, enabled, running) {
-            return Ok((mech.number(), i));
+            return Ok((u32::from(*mech), i));
         }
     }
     Err(NO_MECHANISM)
@@ -99,7 +99,7 @@ pub fn negotiate_mech_type(
 pub fn runs_after(mech: u32, running: Protocol) -> Protocol
     ensures { result ≡ runs_after mech running }
 {
-    if mech == Mech::Ntlm.number() {
+    if mech == u32::from(Mech::Ntlm) {
         Protocol::Ntlm
     } else {
         running

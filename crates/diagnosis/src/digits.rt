@@ -56,10 +56,7 @@ fn decode(heap: Global, text: &[u8]) -> Result<Option<Vec<u8>>, AllocError> {
 fn pair(high: u8, low: u8) -> Option<u8>
     ensures { result ≡ pair_of (digit_of high) (digit_of low) }
 {
-    match (digit(high), digit(low)) {
-        (Some(h), Some(l)) => Some(h * 16 + l),
-        _ => None,
-    }
+    Some(digit(high)? * 16 + digit(low)?)
 }
 
 // The value of a hexadecimal digit of either case.
@@ -67,12 +64,7 @@ fn digit(c: u8) -> Option<u8>
     ensures value { result ≡ digit_of c }
     ensures small { IfSome result (λ d. d < 16) }
 {
-    match c {
-        b'0'..=b'9' => Some(c - b'0'),
-        b'A'..=b'F' => Some(c - b'A' + 10),
-        b'a'..=b'f' => Some(c - b'a' + 10),
-        _ => None,
-    }
+    Some(char::from(c).to_digit(16)? as u8)
 }
 
 // Bytes, to be shown in capital hexadecimal.

@@ -1,3 +1,5 @@
+ghost use Rattle.std.specs.Prelude.{◌≡◌, ◌<◌, IfOk, IsErr, length};
+
 use std::fmt;
 
 // What is wrong at a place of a token; tags and bytes are named by their values.
@@ -91,9 +93,29 @@ enum Kind {
     OctetString,
 }
 
+// A field of a sequence, and whether it was seen.
+#[derive(Clone, Copy)]
+struct Field {
+    tag: u8,
+    kind: Kind,
+    seen: bool,
+}
+
+impl Field {
+    fn new(tag: u8, kind: Kind) -> Field {
+        Field {
+            tag,
+            kind,
+            seen: false,
+        }
+    }
+}
+
 impl<'a> Part<'a> {
     // A trouble n bytes behind the beginning.
-    fn fail<T>(self, n: usize, reason: Reason) -> Result<T, Trouble> {
+    fn fail<T>(self, n: usize, reason: Reason) -> Result<T, Trouble>
+        ensures { IsErr result }
+    {
         Err(Trouble {
             offset: self.offset.saturating_add(n),
             reason,
@@ -101,7 +123,9 @@ impl<'a> Part<'a> {
     }
 
     // The bytes that begin n bytes behind the beginning.
-    fn part(self, n: usize, bytes: &'a [u8]) -> Part<'a> {
+    fn part(self, n: usize, bytes: &'a [u8]) -> Part<'a>
+        ensures { result.bytes.now ≡ bytes.now }
+    {
         Part {
             bytes,
             offset: self.offset.saturating_add(n),
@@ -117,7 +141,9 @@ impl<'a> Part<'a> {
     }
 
     // The length of the content, and what follows the length.
-    fn length(self) -> Result<(usize, Part<'a>), Trouble> {
+    fn length(self) -> Result<(usize, Part<'a>), Trouble>
+        ensures shorter { IfOk result (λ x. length x.1.bytes.now < length self.entry.bytes.now) }
+    {
         match self.bytes {
             [] => self.fail(0, Reason::NoElement),
             [_] => self.fail(1, Reason::NoLength),
@@ -135,7 +161,9 @@ impl<'a> Part<'a> {
     }
 
     // The content of the element at the front, and what follows it.
-    fn take(self) -> Result<(Part<'a>, Part<'a>), Trouble> {
+    fn take(self) -> Result<(Part<'a>, Part<'a>), Trouble>
+        ensures shorter { IfOk result (λ x. length x.1.bytes.now < length self.entry.bytes.now) }
+    {
         self.tag()?;
         let (n, body) = self.length()?;
         let present = body.bytes.len();
@@ -156,7 +184,9 @@ impl<'a> Part<'a> {
     }
 
     // The content of the element at the front, which has this tag, and what follows it.
-    fn take_tagged(self, wanted: u8) -> Result<(Part<'a>, Part<'a>), Trouble> {
+    fn take_tagged(self, wanted: u8) -> Result<(Part<'a>, Part<'a>), Trouble>
+        ensures shorter { IfOk result (λ x. length x.1.bytes.now < length self.entry.bytes.now) }
+    {
         self.expect(wanted)?;
         self.take()
     }
@@ -209,10 +239,7 @@ impl<'a> Part<'a> {
     // Whether this is a list of object identifiers.
     fn mech_types(self) -> Result<(), Trouble> {
         let mut list = self.only(0x30)?;
-        for _ in 0..self.bytes.len() {
-            if list.bytes.is_empty() {
-                break;
-            }
+        while !list.bytes.is_empty() {
             let (oid, others) = list.take_tagged(0x06)?;
             oid.oid()?;
             list = others;
@@ -237,25 +264,29 @@ impl<'a> Part<'a> {
     // Whether this is a sequence of the four fields.
     fn sequence(self, first: Kind, second: Kind) -> Result<(), Trouble> {
         let mut rest = self.only(0x30)?;
-        let mut seen = [false; 4];
-        let kinds = [first, second, Kind::OctetString, Kind::OctetString];
-        for i in 0..4u8 {
-            if rest.tag()? == Some(0xa0 + i) {
+        let mut fields = [
+            Field::new(0xa0, first),
+            Field::new(0xa1, second),
+            Field::new(0xa2, Kind::OctetString),
+            Field::new(0xa3, Kind::OctetString),
+        ];
+        for field in &mut fields {
+            if rest.tag()? == Some(field.tag) {
                 let (content, others) = rest.take()?;
-                content.inner(kinds[i as usize])?;
-                seen[i as usize] = true;
+                content.inner(field.kind)?;
+                field.seen = true;
                 rest = others;
             }
         }
-        match rest.tag()? {
-            None => Ok(()),
-            Some(tag @ 0xa0..=0xa3) if seen[(tag - 0xa0) as usize] => rest.fail(
-                0,
-                Reason::Repeated(tag),
-            ),
-            Some(tag @ 0xa0..=0xa3) => rest.fail(0, Reason::OutOfOrder(tag)),
-            Some(tag) => rest.fail(0, Reason::Unknown(tag)),
-        }
+        let Some(tag) = rest.tag()? else {
+            return Ok(());
+        };
+        let reason = match fields.iter().find(|field| field.tag == tag) {
+            None => Reason::Unknown(tag),
+            Some(field) if field.seen => Reason::Repeated(tag),
+            Some(_) => Reason::OutOfOrder(tag),
+        };
+        rest.fail(0, reason)
     }
 }
 

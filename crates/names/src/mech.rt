@@ -1,7 +1,8 @@
-ghost use Rattle.std.specs.Prelude.{◌≡◌, Some};
-ghost use Rattle.names.specs.Names.{mech_oid, mech_of, mech_number, mech_numbered};
+ghost use Rattle.std.specs.Prelude.{◌≡◌, Some, Ok};
+ghost use Rattle.names.specs.Names.{mech_oid, mech_of, mech_number, mech_numbered, mech_word, named};
 
-use crate::named::{Named, first_named};
+use crate::named::{Named, Unnamed, with_spelling};
+use std::fmt;
 
 const SPNEGO: [u8; 6] = [0x2b, 6, 1, 5, 5, 2];
 
@@ -25,7 +26,7 @@ const MECHS: [Mech; 4] = [Mech::Spnego, Mech::MsKrb5, Mech::Krb5, Mech::Ntlm];
 impl Named for Mech {
     ghost spelling = { mech_oid };
 
-    fn spelled(&self) -> &'static [u8] {
+    fn spelled(self) -> &'static [u8] {
         match self {
             Mech::Spnego => &SPNEGO,
             Mech::MsKrb5 => &MS_KRB5,
@@ -42,40 +43,67 @@ impl Mech {
     {
         self.spelled()
     }
+}
 
-    // The mechanism with this object identifier.
-    pub fn from_oid(oid: &[u8]) -> Option<Mech>
-        ensures answer { result ≡ mech_of oid.now }
-        ensures back { (m : Mech) → result ≡ Some m → oid.now ≡ mech_oid m }
-        ensures found { (m : Mech) → oid.now ≡ mech_oid m → result ≡ Some m }
-    {
-        first_named(&MECHS, oid)
+impl fmt::Display for Mech {
+    ghost output = { λ mech. Some (mech_word mech) };
+
+    fn fmt<W: fmt::Write>(&self, f: &mut fmt::Formatter<W>) -> fmt::Result {
+        f.write_str(match self {
+            Mech::Spnego => "SPNEGO",
+            Mech::MsKrb5 => "ms_krb5",
+            Mech::Krb5 => "krb5",
+            Mech::Ntlm => "NTLM",
+        })
     }
+}
 
-    // The number that names the mechanism in an answer of plain numbers.
-    pub fn number(self) -> u32
-        ensures answer { result ≡ mech_number self }
-        ensures back { mech_numbered result ≡ Some self }
+// The mechanism with this object identifier.
+impl TryFrom<&[u8]> for Mech {
+    type Error = Unnamed;
+
+    ghost try_from_gives = { λ oid mech. mech ≡ named (mech_of oid.now) };
+
+    #[tactic(auto, unfolding(crate::specs::Names::mech_of))]
+    fn try_from(oid: &[u8]) -> Result<Mech, Unnamed>
+        ensures answer { result ≡ named (mech_of oid.now) }
+        ensures back { (m : Mech) → result ≡ Ok m → oid.now ≡ mech_oid m }
+        ensures found { (m : Mech) → oid.now ≡ mech_oid m → result ≡ Ok m }
     {
-        match self {
-            Mech::Spnego => 0,
-            Mech::MsKrb5 => 1,
-            Mech::Krb5 => 2,
-            Mech::Ntlm => 3,
-        }
+        with_spelling(&MECHS, oid).ok_or(Unnamed)
     }
+}
 
-    // The mechanism with this number.
-    pub fn from_number(n: u32) -> Option<Mech>
-        ensures answer { result ≡ mech_numbered n }
-        ensures back { (m : Mech) → result ≡ Some m → mech_number m ≡ n }
+// The number that names the mechanism in an answer of plain numbers.
+impl From<Mech> for u32 {
+    ghost from_gives = { λ mech n. n ≡ mech_number mech };
+
+    #[tactic(auto, unfolding(crate::specs::Names::mech_numbered))]
+    fn from(mech: Mech) -> u32
+        ensures answer { result ≡ mech_number mech }
+        ensures back { mech_numbered result ≡ Some mech }
+    {
+        mech as u32
+    }
+}
+
+// The mechanism with this number.
+impl TryFrom<u32> for Mech {
+    type Error = Unnamed;
+
+    ghost try_from_gives = { λ n mech. mech ≡ named (mech_numbered n) };
+
+    #[tactic(auto, unfolding(crate::specs::Names::mech_numbered))]
+    fn try_from(n: u32) -> Result<Mech, Unnamed>
+        ensures answer { result ≡ named (mech_numbered n) }
+        ensures back { (m : Mech) → result ≡ Ok m → mech_number m ≡ n }
     {
         match n {
-            0 => Some(Mech::Spnego),
-            1 => Some(Mech::MsKrb5),
-            2 => Some(Mech::Krb5),
-            3 => Some(Mech::Ntlm),
-            _ => None,
+            0 => Ok(Mech::Spnego),
+            1 => Ok(Mech::MsKrb5),
+            2 => Ok(Mech::Krb5),
+            3 => Ok(Mech::Ntlm),
+            _ => Err(Unnamed),
         }
     }
 }

@@ -1,7 +1,8 @@
-ghost use Rattle.std.specs.Prelude.{◌≡◌, Some};
-ghost use Rattle.names.specs.Names.{state_bytes, state_of};
+ghost use Rattle.std.specs.Prelude.{◌≡◌, Some, Ok};
+ghost use Rattle.names.specs.Names.{state_bytes, state_of, state_word, named};
 
-use crate::named::{Named, first_named};
+use crate::named::{Named, Unnamed, with_spelling};
+use std::fmt;
 
 const COMPLETE: [u8; 3] = [0x0a, 1, 0];
 
@@ -30,7 +31,7 @@ const STATES: [NegState; 4] = [
 impl Named for NegState {
     ghost spelling = { state_bytes };
 
-    fn spelled(&self) -> &'static [u8] {
+    fn spelled(self) -> &'static [u8] {
         match self {
             NegState::Complete => &COMPLETE,
             NegState::Incomplete => &INCOMPLETE,
@@ -47,13 +48,33 @@ impl NegState {
     {
         self.spelled()
     }
+}
 
-    // The state that this element says.
-    pub fn from_bytes(bytes: &[u8]) -> Option<NegState>
-        ensures answer { result ≡ state_of bytes.now }
-        ensures back { (s : NegState) → result ≡ Some s → bytes.now ≡ state_bytes s }
-        ensures found { (s : NegState) → bytes.now ≡ state_bytes s → result ≡ Some s }
+impl fmt::Display for NegState {
+    ghost output = { λ state. Some (state_word state) };
+
+    fn fmt<W: fmt::Write>(&self, f: &mut fmt::Formatter<W>) -> fmt::Result {
+        f.write_str(match self {
+            NegState::Complete => "complete",
+            NegState::Incomplete => "incomplete",
+            NegState::Reject => "reject",
+            NegState::RequestMic => "request-mic",
+        })
+    }
+}
+
+// The state that this element says.
+impl TryFrom<&[u8]> for NegState {
+    type Error = Unnamed;
+
+    ghost try_from_gives = { λ bytes state. state ≡ named (state_of bytes.now) };
+
+    #[tactic(auto, unfolding(crate::specs::Names::state_of))]
+    fn try_from(bytes: &[u8]) -> Result<NegState, Unnamed>
+        ensures answer { result ≡ named (state_of bytes.now) }
+        ensures back { (s : NegState) → result ≡ Ok s → bytes.now ≡ state_bytes s }
+        ensures found { (s : NegState) → bytes.now ≡ state_bytes s → result ≡ Ok s }
     {
-        first_named(&STATES, bytes)
+        with_spelling(&STATES, bytes).ok_or(Unnamed)
     }
 }

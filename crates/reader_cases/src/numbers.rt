@@ -4,14 +4,14 @@ use std::process::Abort;
 // Each number gives the kind beside it, or none.
 fn kinds_at(rt: &impl Abort, rows: &[(u32, Option<ErrorKind>)]) {
     for (n, kind) in rows {
-        assert_eq!(rt; ErrorKind::from_number(*n), *kind);
+        assert_eq!(rt; ErrorKind::try_from(*n).ok(), *kind);
     }
 }
 
 // Each number gives the status beside it, or none.
 fn statuses_at(rt: &impl Abort, rows: &[(u32, Option<SecurityStatus>)]) {
     for (n, status) in rows {
-        assert_eq!(rt; SecurityStatus::from_number(*n), *status);
+        assert_eq!(rt; SecurityStatus::try_from(*n).ok(), *status);
     }
 }
 

@@ -71,10 +71,7 @@ fn number_of(entry: &[u8]) -> u32
 fn fault_kind(number: u32) -> ErrorKind
     ensures { result ≡ kind_or (kind_of number) }
 {
-    match ErrorKind::from_number(number) {
-        Some(kind) => kind,
-        None => ErrorKind::InternalError,
-    }
+    ErrorKind::try_from(number).unwrap_or(ErrorKind::InternalError)
 }
 
 // What an entry says: a status and a token, or a fault.
@@ -86,9 +83,9 @@ fn tell(entry: &[u8]) -> Result<(SecurityStatus, &[u8]), Fault>
     }
     let number = number_of(entry);
     let (_, token) = entry.split_at(4);
-    match SecurityStatus::from_number(number) {
-        Some(status) => Ok((status, token)),
-        None => Err(Layer::Mechanism.fault(fault_kind(number))),
+    match SecurityStatus::try_from(number) {
+        Ok(status) => Ok((status, token)),
+        Err(_) => Err(Layer::Mechanism.fault(fault_kind(number))),
     }
 }
 

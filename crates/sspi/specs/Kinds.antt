@@ -1,6 +1,6 @@
 -- The numbers of the kinds of error, and the kind of a number.
-use Rattle.std.specs.Prelude.{ℕ, List, [], ◌∷◌, Option}
-use Rattle.sspi.specs.Numbers.{first_with}
+use Rattle.std.specs.Prelude.{ℕ, List, [], ◌∷◌, Option, ◌==◌}
+use Rattle.std.specs.List.{find}
 use Rattle.sspi.specs.declared.error_kind.ErrorKind.{ErrorKind}
 use Rattle.sspi.specs.declared.error_kind.ErrorKind.TheVariants.{Unknown, InsufficientMemory, InvalidHandle, UnsupportedFunction, TargetUnknown, InternalError, SecurityPackageNotFound, NotOwned, CannotInstall, InvalidToken, CannotPack, OperationNotSupported, NoImpersonation, LogonDenied, UnknownCredentials, NoCredentials, MessageAltered, OutOfSequence, NoAuthenticatingAuthority, BadPackageId, ContextExpired, IncompleteMessage, IncompleteCredentials, BufferTooSmall, WrongPrincipalName, TimeSkew, UntrustedRoot, IllegalMessage, CertificateUnknown, CertificateExpired, EncryptFailure, DecryptFailure, AlgorithmMismatch, SecurityQosFailed, UnfinishedContextDeleted, NoTgtReply, NoIpAddress, WrongCredentialHandle, CryptoSystemInvalid, MaxReferralsExceeded, MustBeKdc, StrongCryptoNotSupported, TooManyPrincipals, NoPaData, PkInitNameMismatch, SmartCardLogonRequired, ShutdownInProgress, KdcInvalidRequest, KdcUnknownEType, KdcUnknownEType2, UnsupportedPreAuth, DelegationRequired, BadBindings, MultipleAccounts, NoKerbKey, CertWrongUsage, DowngradeDetected, SmartCardCertificateRevoked, IssuingCAUntrusted, RevocationOffline, PkInitClientFailure, SmartCardCertExpired, NoS4uProtSupport, CrossRealmDelegationFailure, RevocationOfflineKdc, IssuingCaUntrustedKdc, KdcCertExpired, KdcCertRevoked, InvalidParameter, DelegationPolicy, PolicyNtlmOnly, NoContext, Pku2uCertFailure, MutualAuthFailed, OnlyHttpsAllowed, ApplicationProtocolMismatch}
 
@@ -88,5 +88,5 @@ abbrev pub kinds : List ErrorKind
 kinds = Unknown ∷ InsufficientMemory ∷ InvalidHandle ∷ UnsupportedFunction ∷ TargetUnknown ∷ InternalError ∷ SecurityPackageNotFound ∷ NotOwned ∷ CannotInstall ∷ InvalidToken ∷ CannotPack ∷ OperationNotSupported ∷ NoImpersonation ∷ LogonDenied ∷ UnknownCredentials ∷ NoCredentials ∷ MessageAltered ∷ OutOfSequence ∷ NoAuthenticatingAuthority ∷ BadPackageId ∷ ContextExpired ∷ IncompleteMessage ∷ IncompleteCredentials ∷ BufferTooSmall ∷ WrongPrincipalName ∷ TimeSkew ∷ UntrustedRoot ∷ IllegalMessage ∷ CertificateUnknown ∷ CertificateExpired ∷ EncryptFailure ∷ DecryptFailure ∷ AlgorithmMismatch ∷ SecurityQosFailed ∷ UnfinishedContextDeleted ∷ NoTgtReply ∷ NoIpAddress ∷ WrongCredentialHandle ∷ CryptoSystemInvalid ∷ MaxReferralsExceeded ∷ MustBeKdc ∷ StrongCryptoNotSupported ∷ TooManyPrincipals ∷ NoPaData ∷ PkInitNameMismatch ∷ SmartCardLogonRequired ∷ ShutdownInProgress ∷ KdcInvalidRequest ∷ KdcUnknownEType ∷ KdcUnknownEType2 ∷ UnsupportedPreAuth ∷ DelegationRequired ∷ BadBindings ∷ MultipleAccounts ∷ NoKerbKey ∷ CertWrongUsage ∷ DowngradeDetected ∷ SmartCardCertificateRevoked ∷ IssuingCAUntrusted ∷ RevocationOffline ∷ PkInitClientFailure ∷ SmartCardCertExpired ∷ NoS4uProtSupport ∷ CrossRealmDelegationFailure ∷ RevocationOfflineKdc ∷ IssuingCaUntrustedKdc ∷ KdcCertExpired ∷ KdcCertRevoked ∷ InvalidParameter ∷ DelegationPolicy ∷ PolicyNtlmOnly ∷ NoContext ∷ Pku2uCertFailure ∷ MutualAuthFailed ∷ OnlyHttpsAllowed ∷ ApplicationProtocolMismatch ∷ []
 
 -- the kind of the number n, if there is one
-abbrev pub kind_of : ℕ → Option ErrorKind
-kind_of n = first_with kind_number kinds n
+unfoldable pub kind_of : ℕ → Option ErrorKind
+kind_of n = find (λ k. kind_number k == n) kinds

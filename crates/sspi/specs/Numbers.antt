@@ -1,7 +1,7 @@
--- Looking up by number.
-use Rattle.std.specs.Prelude.{ℕ, cond, List, [], ◌∷◌, Some, None, Option, ◌==◌}
+-- The answer to a number: what has it, or that nothing does.
+use Rattle.std.specs.Prelude.{ℕ, Option, Result}
+use Rattle.std.specs.Option.{ok_or}
+use Rattle.sspi.specs.declared.numbers.UnknownNumber.{UnknownNumber}
 
--- the first of a list that has the number n
-abbrev pub first_with : {X : Type 0} → (X → ℕ) → List X → ℕ → Option X
-first_with number [] n = None
-first_with number (x ∷ xs) n = cond (n == number x) (Some x) (first_with number xs n)
+abbrev pub numbered : {X : Type 0} → ℕ → Option X → Result X UnknownNumber
+numbered n x = ok_or x (record { 0 = n })

@@ -1,6 +1,6 @@
 -- The numbers of the statuses, and the status of a number.
-use Rattle.std.specs.Prelude.{ℕ, List, [], ◌∷◌, Option}
-use Rattle.sspi.specs.Numbers.{first_with}
+use Rattle.std.specs.Prelude.{ℕ, List, [], ◌∷◌, Option, ◌==◌}
+use Rattle.std.specs.List.{find}
 use Rattle.sspi.specs.declared.security_status.SecurityStatus.{SecurityStatus}
 use Rattle.sspi.specs.declared.security_status.SecurityStatus.TheVariants.{Ok, ContinueNeeded, CompleteNeeded, CompleteAndContinue, LocalLogon, ContextExpired, IncompleteCredentials, Renegotiate, NoLsaContext}
 
@@ -21,5 +21,5 @@ abbrev pub statuses : List SecurityStatus
 statuses = Ok ∷ ContinueNeeded ∷ CompleteNeeded ∷ CompleteAndContinue ∷ LocalLogon ∷ ContextExpired ∷ IncompleteCredentials ∷ Renegotiate ∷ NoLsaContext ∷ []
 
 -- the status of the number n, if there is one
-abbrev pub status_of : ℕ → Option SecurityStatus
-status_of n = first_with status_number statuses n
+unfoldable pub status_of : ℕ → Option SecurityStatus
+status_of n = find (λ s. status_number s == n) statuses

@@ -1,9 +1,10 @@
-ghost use Rattle.std.specs.Prelude.{◌≡◌, ◌==◌, Some, Decides};
+ghost use Rattle.std.specs.Prelude.{◌≡◌, ◌==◌, Some, Ok, Decides};
 ghost use Rattle.sspi.specs.Kinds.{kind_number, kind_of};
+ghost use Rattle.sspi.specs.Numbers.{numbered};
 ghost use Rattle.std.specs.Cmp.Rules.{comparing};
 ghost use Rattle.std.proofs.Common.{rules};
 
-use crate::numbered::{Numbered, first_with};
+use crate::numbers::{Numbered, UnknownNumber, with_number};
 
 // What went wrong, with the numbers that Windows gives to these errors.
 #[derive(Clone, Copy, Debug)]
@@ -167,28 +168,38 @@ const KINDS: [ErrorKind; 76] = [
 ];
 
 impl Numbered for ErrorKind {
-    ghost numbered = { kind_number };
+    ghost number_of = { kind_number };
 
-    fn code(&self) -> u32 {
-        *self as u32
+    fn code(self) -> u32 {
+        self as u32
     }
 }
 
-impl ErrorKind {
-    // The number, by which the kind is found again.
-    pub fn number(self) -> u32
-        ensures answer { result ≡ kind_number self }
-        ensures back { kind_of result ≡ Some self }
-    {
-        self.code()
-    }
+// The number, by which the kind is found again.
+impl From<ErrorKind> for u32 {
+    ghost from_gives = { λ kind n. n ≡ kind_number kind };
 
-    // The kind that has the number, if there is one.
-    pub fn from_number(n: u32) -> Option<ErrorKind>
-        ensures answer { result ≡ kind_of n }
-        ensures back { (k : ErrorKind) → result ≡ Some k → kind_number k ≡ n }
+    #[tactic(auto, unfolding(crate::specs::Kinds::kind_of))]
+    fn from(kind: ErrorKind) -> u32
+        ensures answer { result ≡ kind_number kind }
+        ensures back { kind_of result ≡ Some kind }
     {
-        first_with(&KINDS, n)
+        kind.code()
+    }
+}
+
+// The kind that has the number.
+impl TryFrom<u32> for ErrorKind {
+    type Error = UnknownNumber;
+
+    ghost try_from_gives = { λ n kind. kind ≡ numbered n (kind_of n) };
+
+    #[tactic(auto, unfolding(crate::specs::Kinds::kind_of))]
+    fn try_from(n: u32) -> Result<ErrorKind, UnknownNumber>
+        ensures answer { result ≡ numbered n (kind_of n) }
+        ensures back { (kind : ErrorKind) → result ≡ Ok kind → kind_number kind ≡ n }
+    {
+        with_number(&KINDS, n).ok_or(UnknownNumber(n))
     }
 }
 
@@ -202,6 +213,6 @@ impl PartialEq for ErrorKind {
         ensures numbers { result ≡ (kind_number self.now == kind_number other.now) }
         ensures same { Decides result (self.now ≡ other.now) }
     {
-        self.number() == other.number()
+        u32::from(*self) == u32::from(*other)
     }
 }

@@ -1,4 +1,4 @@
-ghost use Rattle.std.specs.Prelude.{◌≡◌, ◌==◌, ◌&&◌, Decides, nat_eq};
+ghost use Rattle.std.specs.Prelude.{◌≡◌, ◌==◌, ◌&&◌, Some, Decides, nat_eq};
 ghost use Rattle.sspi.specs.Kinds.{kind_number};
 ghost use Rattle.sspi.specs.Layers.{layer_name, layer_number};
 ghost use Rattle.std.specs.Cmp.Rules.{comparing};
@@ -6,6 +6,7 @@ ghost use Rattle.std.specs.Ordering.{on, eq_of_both};
 ghost use Rattle.std.proofs.Common.{rules};
 
 use crate::error_kind::ErrorKind;
+use std::fmt;
 
 // Which layer refused: the token reader and writer, the negotiation, or a mechanism.
 #[derive(Clone, Copy, PartialEq, Debug)]
@@ -33,6 +34,14 @@ impl Layer {
         ensures layer { result.layer ≡ self }
     {
         Fault { kind, layer: self }
+    }
+}
+
+impl fmt::Display for Layer {
+    ghost output = { λ layer. Some (layer_name layer) };
+
+    fn fmt<W: fmt::Write>(&self, f: &mut fmt::Formatter<W>) -> fmt::Result {
+        f.write_str(self.name())
     }
 }
 

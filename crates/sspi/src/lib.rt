@@ -3,10 +3,11 @@
 mod error_kind;
 mod fault;
 mod laws;
-mod numbered;
+mod numbers;
 mod security_status;
 
 pub use error_kind::ErrorKind;
 pub use fault::{Fault, Layer};
 pub use laws::equal_is_the_same;
+pub use numbers::UnknownNumber;
 pub use security_status::SecurityStatus;

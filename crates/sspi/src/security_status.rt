@@ -1,7 +1,8 @@
-ghost use Rattle.std.specs.Prelude.{◌≡◌, Some};
+ghost use Rattle.std.specs.Prelude.{◌≡◌, Some, Ok};
+ghost use Rattle.sspi.specs.Numbers.{numbered};
 ghost use Rattle.sspi.specs.Statuses.{status_number, status_of};
 
-use crate::numbered::{Numbered, first_with};
+use crate::numbers::{Numbered, UnknownNumber, with_number};
 
 // How a step that was not refused ended, with the numbers that Windows gives to these statuses.
 #[derive(Clone, Copy, PartialEq, Debug)]
@@ -31,27 +32,37 @@ const STATUSES: [SecurityStatus; 9] = [
 ];
 
 impl Numbered for SecurityStatus {
-    ghost numbered = { status_number };
+    ghost number_of = { status_number };
 
-    fn code(&self) -> u32 {
-        *self as u32
+    fn code(self) -> u32 {
+        self as u32
     }
 }
 
-impl SecurityStatus {
-    // The number, by which the status is found again.
-    pub fn number(self) -> u32
-        ensures answer { result ≡ status_number self }
-        ensures back { status_of result ≡ Some self }
-    {
-        self.code()
-    }
+// The number, by which the status is found again.
+impl From<SecurityStatus> for u32 {
+    ghost from_gives = { λ status n. n ≡ status_number status };
 
-    // The status that has the number, if there is one.
-    pub fn from_number(n: u32) -> Option<SecurityStatus>
-        ensures answer { result ≡ status_of n }
-        ensures back { (k : SecurityStatus) → result ≡ Some k → status_number k ≡ n }
+    #[tactic(auto, unfolding(crate::specs::Statuses::status_of))]
+    fn from(status: SecurityStatus) -> u32
+        ensures answer { result ≡ status_number status }
+        ensures back { status_of result ≡ Some status }
     {
-        first_with(&STATUSES, n)
+        status.code()
+    }
+}
+
+// The status that has the number.
+impl TryFrom<u32> for SecurityStatus {
+    type Error = UnknownNumber;
+
+    ghost try_from_gives = { λ n status. status ≡ numbered n (status_of n) };
+
+    #[tactic(auto, unfolding(crate::specs::Statuses::status_of))]
+    fn try_from(n: u32) -> Result<SecurityStatus, UnknownNumber>
+        ensures answer { result ≡ numbered n (status_of n) }
+        ensures back { (status : SecurityStatus) → result ≡ Ok status → status_number status ≡ n }
+    {
+        with_number(&STATUSES, n).ok_or(UnknownNumber(n))
     }
 }

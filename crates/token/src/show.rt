@@ -4,6 +4,7 @@ use mech_types::MechTypeList;
 use names::{Mech, NegState};
 use spnego::{NegTokenInit, NegTokenTarg};
 use sspi::Fault;
+use std::fmt::Display;
 use std::io;
 
 // The length of the longest token that is read.
@@ -44,7 +45,7 @@ fn targ(rt: &impl Print, number: u64, len: usize, token: NegTokenTarg<'_>) -> io
     println!(rt; "token {number}: NegTokenTarg, {len} bytes")?;
     match token.neg_state {
         None => println!(rt; "negState absent")?,
-        Some(element) => named(rt, "negState", element, state_word(element))?,
+        Some(element) => named(rt, "negState", element, NegState::try_from(element).ok())?,
     }
     match token.supported_mech {
         None => println!(rt; "supportedMech absent")?,
@@ -82,40 +83,27 @@ fn bytes(rt: &impl Print, field: &str, value: Option<&[u8]>) -> io::Result<()> {
 }
 
 fn oid(rt: &impl Print, field: &str, oid: &[u8]) -> io::Result<()> {
-    named(rt, field, oid, mech_word(oid))
+    named(rt, field, oid, Mech::try_from(oid).ok())
 }
 
 // Prints bytes that may have a name.
-fn named(rt: &impl Print, field: &str, value: &[u8], word: Option<&str>) -> io::Result<()> {
-    match word {
+fn named<T: Display + Drop>(
+    rt: &impl Print,
+    field: &str,
+    value: &[u8],
+    name: Option<T>,
+) -> io::Result<()> {
+    match name {
         None => println!(rt; "{field} {}", Hex(value)),
-        Some(word) => println!(rt; "{field} {} {word}", Hex(value)),
-    }
-}
-
-fn mech_word(oid: &[u8]) -> Option<&'static str> {
-    match Mech::from_oid(oid)? {
-        Mech::Spnego => Some("SPNEGO"),
-        Mech::MsKrb5 => Some("ms_krb5"),
-        Mech::Krb5 => Some("krb5"),
-        Mech::Ntlm => Some("NTLM"),
-    }
-}
-
-fn state_word(element: &[u8]) -> Option<&'static str> {
-    match NegState::from_bytes(element)? {
-        NegState::Complete => Some("complete"),
-        NegState::Incomplete => Some("incomplete"),
-        NegState::Reject => Some("reject"),
-        NegState::RequestMic => Some("request-mic"),
+        Some(name) => println!(rt; "{field} {} {name}", Hex(value)),
     }
 }
 
 fn refused(rt: &impl Print, number: u64, fault: Fault) -> io::Result<()> {
     println!(rt;
         "token {number}: refused {:08X} {}",
-        fault.kind.number(),
-        fault.layer.name()
+        u32::from(fault.kind),
+        fault.layer
     )
 }
 

@@ -4,7 +4,7 @@ use Rattle.choice.proofs.extractors.choose.Goals as goal
 
 pub returns-in-Some : goal.returns-in-Some
 returns-in-Some c os h =
-    ap (λ n. Ok (n, c.in-Some.i)) c.number.ensures.answer
+    ap (λ n. Ok (n, c.in-Some.i)) c.from.ensures.answer
     ∙ (sym (chosen_at c.args.mechs.now c.loop-mech.mech-index _ os c.args.enabled c.args.running _ c.loop-mech-test.true (c.in-Some.ensures os h)) ∙ c.loop-mech.invariant os h)
 
 pub loop-mech-preserved : goal.loop-mech-preserved
