@@ -1,16 +1,15 @@
 #![tactic(auto)]
 
-ghost use Rattle.std.specs.Prelude.{◌≡◌, ◌<◌, ◌≤◌, length};
-ghost use Rattle.books.specs.Views.{book_or_empty, book_bytes};
+ghost use Rattle.std.specs.Prelude.{◌≡◌, ◌<◌, length};
+ghost use Rattle.books.specs.Books.{book_or_empty};
 ghost use Rattle.mechanism.specs.Promises.{step_front, Within};
 ghost use Rattle.script.specs.Lawful.{script_lawful};
-ghost use Rattle.script.specs.Plays.{Begins, number_of, kind_or, moves_on, starts, after, mic_of, told, plain_told, played, script_sealing, script_stepping};
-ghost use Rattle.sspi.specs.Kinds.{kind_of};
+ghost use Rattle.script.specs.Plays.{Begins, moves_on, starts, after, mic_of, told, plain_told, played, script_sealing, script_stepping};
 ghost use Rattle.std.specs.Str.{bytes_eq};
 
 use books::Book;
-use mechanism::{Identity, Mechanism, Sealer, Side, may_seal, refuse};
-use sspi::{ErrorKind, Fault, SecurityStatus};
+use mechanism::{Identity, Mechanism, Sealer, Side, may_seal};
+use sspi::{ErrorKind, Fault, Layer, SecurityStatus};
 
 // A mechanism that plays a book, entry by entry.
 pub struct Script<'a> {
@@ -39,15 +38,12 @@ impl<'a> Script<'a> {
         ensures { self.new ≡ after self.old (moves_on answer) (starts answer) }
     {
         match answer {
-            Ok((status, _)) => {
+            Err(fault) if fault.kind == ErrorKind::BufferTooSmall => {}
+            Ok((SecurityStatus::Ok, _)) => {
                 self.pos += 1;
-                self.session = self.session || status == SecurityStatus::Ok;
+                self.session = true;
             }
-            Err(fault) => {
-                if fault.kind != ErrorKind::BufferTooSmall {
-                    self.pos += 1;
-                }
-            }
+            _ => self.pos += 1,
         }
     }
 
@@ -59,36 +55,21 @@ impl<'a> Script<'a> {
     }
 }
 
-// The number in the first four bytes of an entry.
-fn number_of(entry: &[u8]) -> u32
-    requires { 4 ≤ length entry.now }
-    ensures { result ≡ number_of entry.now }
-{
-    ((entry[0] as u32 * 256 + entry[1] as u32) * 256 + entry[2] as u32) * 256 + entry[3] as u32
-}
-
-// The kind of fault with this number, InternalError if there is none.
-fn fault_kind(number: u32) -> ErrorKind
-    ensures { result ≡ kind_or (kind_of number) }
-{
-    match ErrorKind::from_number(number) {
-        Some(kind) => kind,
-        None => ErrorKind::InternalError,
-    }
-}
-
 // What an entry says: a status and a token, or a fault.
+#[tactic(auto, using(std::proofs::lemmas::Bool::Decides::nat_tests, std::proofs::lemmas::Grind::common_steps))]
 fn tell(entry: &[u8]) -> Result<(SecurityStatus, &[u8]), Fault>
     ensures { plain_told result ≡ told entry.now }
 {
-    if entry.len() < 4 {
-        return Err(refuse(ErrorKind::InternalError));
-    }
-    let number = number_of(entry);
-    let (_, token) = entry.split_at(4);
+    let Some((number, token)) = entry.split_first_chunk() else {
+        return Err(Layer::Mechanism.fault(ErrorKind::InternalError));
+    };
+    let number = u32::from_be_bytes(*number);
     match SecurityStatus::from_number(number) {
         Some(status) => Ok((status, token)),
-        None => Err(refuse(fault_kind(number))),
+        None => {
+            let kind = ErrorKind::from_number(number).unwrap_or(ErrorKind::InternalError);
+            Err(Layer::Mechanism.fault(kind))
+        }
     }
 }
 
@@ -100,9 +81,9 @@ fn play(entry: &[u8], work: &mut [u8]) -> Result<(SecurityStatus, usize), Fault>
     let (status, token) = tell(entry)?;
     let n = token.len();
     if work.len() < n {
-        return Err(refuse(ErrorKind::BufferTooSmall));
+        return Err(Layer::Mechanism.fault(ErrorKind::BufferTooSmall));
     }
-    work[0..n].copy_from_slice(token);
+    work[..n].copy_from_slice(token);
     Ok((status, n))
 }
 
@@ -124,7 +105,7 @@ impl<'a> Sealer for Script<'a> {
         if takes(data, mic) {
             Ok(())
         } else {
-            Err(refuse(ErrorKind::MessageAltered))
+            Err(Layer::Mechanism.fault(ErrorKind::MessageAltered))
         }
     }
 }
@@ -133,10 +114,7 @@ impl<'a> Sealer for Script<'a> {
 fn takes(data: &[u8], mic: &[u8]) -> bool
     ensures { result ≡ bytes_eq (mic_of «data».now) mic.now }
 {
-    match mic {
-        [] => false,
-        [head, rest @ ..] => *head == 0x53 && data == rest,
-    }
+    matches!(mic, [0x53, rest @ ..] if data == rest)
 }
 
 impl<'a> Mechanism for Script<'a> {
@@ -155,17 +133,12 @@ impl<'a> Mechanism for Script<'a> {
         input: &[u8],
         work: &mut [u8],
     ) -> Result<(SecurityStatus, usize), Fault> {
-        if self.pos >= self.book.len() {
-            return Err(refuse(ErrorKind::OutOfSequence));
-        }
-        match self.book.entry(self.pos) {
-            Some(entry) => {
-                let answer = play(entry, work);
-                self.move_on(answer);
-                answer
-            }
-            None => Err(refuse(ErrorKind::OutOfSequence)),
-        }
+        let Some(entry) = self.book.entry(self.pos) else {
+            return Err(Layer::Mechanism.fault(ErrorKind::OutOfSequence));
+        };
+        let answer = play(entry, work);
+        self.move_on(answer);
+        answer
     }
 
     fn name(&self, name: &mut [u8; 64]) -> Result<usize, Fault> {

@@ -1,13 +1,12 @@
-use Rattle.std.proofs.Common.{Ok, Err, sym, refl, ap, ◌∙◌}
-use Rattle.script.proofs.Telling.{told_at}
+use Rattle.std.proofs.Common.{◌≡◌, arith, rules}
+use Rattle.std.proofs.lemmas.Bool.Decides.{nat_tests}
+use Rattle.std.proofs.lemmas.Grind.{common_steps}
+use Rattle.mechanism.specs.Promises.{refusal}
 use Rattle.script.proofs.tell.Goals as goal
-
-pub returns-in-Some : goal.returns-in-Some
-returns-in-Some c =
-    ap (λ t. Ok (c.in-Some.status, t)) c.split_at.ensures.back
-    ∙ told_at c.args.entry.now c.number_of-number.result _ _ c.if-entry-lt4.false c.number_of-number.ensures (sym c.in-Some.is ∙ c.from_number.ensures.answer) refl
 
 pub returns-in-None : goal.returns-in-None
 returns-in-None c =
-    ap Err c.refuse-in-None.ensures
-    ∙ told_at c.args.entry.now c.number_of-number.result _ _ c.if-entry-lt4.false c.number_of-number.ensures (sym c.in-None.is ∙ c.from_number.ensures.answer) c.fault_kind.ensures
+    let kind = c.fault-in-None.ensures.kind in
+    let layer = c.fault-in-None.ensures.layer in
+    let f : c.fault-in-None.result ≡ refusal c.unwrap_or-kind.result = search rules in
+    grind (arith, nat_tests, common_steps)
