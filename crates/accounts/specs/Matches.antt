@@ -1,7 +1,8 @@
 -- The accounts that a name is looked for in: those whose names compare equal, in the order of the book. Two accounts of a book may have
 -- one name, so there may be several. The book's name is compared to the name that is asked for, in this order.
-use Rattle.std.specs.Prelude.{◌≡◌, ℕ, zero, suc, ◌+◌, ◌-◌, ◌<◌, ◌≤◌, Bool, true, false, cond, ◌⊎◌, List, [], ◌∷◌, length, Some, None, filter, Option, nat_le, slice_index_or}
-use Rattle.accounts.specs.Accounts.{account_at, account_count, accounts, is_account_book}
+use Rattle.std.specs.Prelude.{◌≡◌, ℕ, ◌+◌, ◌-◌, ◌<◌, ◌≤◌, Bool, true, false, ◌⊎◌, List, [], ◌∷◌, length, Some, None, filter, Option, nat_le, slice_index_or}
+use Rattle.std.specs.List.{range_with_len}
+use Rattle.accounts.specs.Accounts.{account_at, account_count, accounts}
 use Rattle.accounts.specs.Names.{same_account}
 
 -- whether this is an account, and of this name
@@ -9,14 +10,9 @@ abbrev pub is_named : List ℕ → Option (List ℕ × List ℕ) → Bool
 is_named name None = false
 is_named name (Some a) = same_account a.0 name
 
--- those among the n accounts from account i on
-unfoldable pub matches_up : List ℕ → List ℕ → ℕ → ℕ → List ℕ
-matches_up name xs zero i = []
-matches_up name xs (suc n) i = cond (is_named name (account_at xs i)) (i ∷ matches_up name xs n (i + 1)) (matches_up name xs n (i + 1))
-
 -- those from account k on
 unfoldable pub matches_from : List ℕ → List ℕ → ℕ → List ℕ
-matches_from name xs k = matches_up name xs (account_count xs - k) k
+matches_from name xs k = filter (λ i. is_named name (account_at xs i)) (range_with_len k (account_count xs - k))
 
 unfoldable pub matches : List ℕ → List ℕ → List ℕ
 matches name xs = matches_from name xs 0
@@ -49,10 +45,10 @@ Rising k (i ∷ is) = (k ≤ i) × Rising (i + 1) is
 abbrev pub Named : List ℕ → List ℕ → ℕ → Type 0
 Named name xs i = (i < length (accounts xs)) × (same_account (slice_index_or (accounts xs) i ([], [])).0 name ≡ true)
 
--- In an account book the matches are exactly the indices of the accounts whose names compare equal; they rise strictly; and those from
--- account k on are the matches that are at least k.
+-- The matches are exactly the indices of the accounts whose names compare equal; they rise strictly; and those from account k on are
+-- the matches that are at least k.
 pub record Exact (name xs : List ℕ) (k : ℕ) : Type 0 where
-  pub sound : is_account_book xs ≡ true → (i : ℕ) → Among (matches name xs) i → Named name xs i
-  pub complete : is_account_book xs ≡ true → (i : ℕ) → Named name xs i → Among (matches name xs) i
+  pub sound : (i : ℕ) → Among (matches name xs) i → Named name xs i
+  pub complete : (i : ℕ) → Named name xs i → Among (matches name xs) i
   pub rising : Rising 0 (matches name xs)
   pub later : matches_from name xs k ≡ filter (λ i. nat_le k i) (matches name xs)

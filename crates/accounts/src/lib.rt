@@ -4,8 +4,7 @@ ghost use Rattle.std.specs.Prelude.{◌≡◌, true, is_ok};
 ghost use Rattle.accounts.specs.Accounts.{account_at, all_short, is_account_book, Listed};
 ghost use Rattle.accounts.specs.Matches.{is_named, matches_from, first_of, walked, Found, Exact};
 ghost use Rattle.accounts.specs.Names.{same_account, is_guest};
-ghost use Rattle.accounts.specs.Views.{account_bytes, accounts_read, read_accounts, seen_account};
-ghost use Rattle.books.specs.Books.{entries, is_book};
+ghost use Rattle.books.specs.Books.{entries};
 ghost use Rattle.books.specs.Views.{book_bytes};
 
 use books::{Book, INVALID};
@@ -13,6 +12,7 @@ use sspi::Fault;
 use text::eq_ignore_ascii_case;
 
 // Whether the two names are one account's.
+#[tactic(auto, unfolding(crate::specs::Names::same_account))]
 pub fn same_account(a: &[u8], b: &[u8]) -> bool
     ensures { result ≡ same_account a.now b.now }
 {
@@ -20,6 +20,7 @@ pub fn same_account(a: &[u8], b: &[u8]) -> bool
 }
 
 // Whether the name is the guest's.
+#[tactic(auto, unfolding(crate::specs::Names::is_guest))]
 pub fn is_guest(name: &[u8]) -> bool
     ensures { result ≡ is_guest name.now }
 {
@@ -28,18 +29,9 @@ pub fn is_guest(name: &[u8]) -> bool
 
 // Whether no entry is longer than 64 bytes.
 fn all_short(book: &Book<'_>) -> bool
-    requires { is_book (book_bytes book.now) ≡ true }
     ensures { result ≡ all_short (entries (book_bytes book.now)) }
 {
-    for i in 0..book.len() {
-        let Some(entry) = book.entry(i) else {
-            return false;
-        };
-        if entry.len() > 64 {
-            return false;
-        }
-    }
-    true
+    book.entries().all(|entry| entry.len() <= 64)
 }
 
 // The name of an account, and its secret.
@@ -53,10 +45,14 @@ pub struct Account<'a> {
 #[derive(Clone, Copy)]
 pub struct AccountBook<'a> {
     book: Book<'a>,
+    pub ghost lawful: { is_account_book (book_bytes book) ≡ true },
 }
 
 impl<'a> AccountBook<'a> {
+    ghost use Rattle.accounts.specs.Views.{account_bytes, accounts_read, read_accounts, seen_account};
+
     // Reads an account book that fills the bytes.
+    #[tactic(auto, using(std::proofs::lemmas::Bool::Decides::nat_tests, crate::proofs::Listing::no_book, crate::proofs::Listing::same_bytes), unfolding(crate::specs::Accounts::is_account_book))]
     pub fn read(bytes: &'a [u8]) -> Result<AccountBook<'a>, Fault>
         ensures answer { accounts_read result ≡ read_accounts bytes.now }
         ensures test { is_ok result ≡ is_account_book bytes.now }
@@ -85,10 +81,8 @@ impl<'a> AccountBook<'a> {
     fn is_named(&self, i: usize, name: &[u8]) -> bool
         ensures { result ≡ is_named name.now (account_at (account_bytes self.now) i) }
     {
-        match self.account(i) {
-            Some(account) => same_account(account.name, name),
-            None => false,
-        }
+        self.account(i)
+            .is_some_and(|account| same_account(account.name, name))
     }
 
     // The first account of this name, of those from account `from` on. Called again behind each that it finds, it walks through all of
@@ -99,11 +93,6 @@ impl<'a> AccountBook<'a> {
         ensures found { Found (account_bytes self.now) from result }
         ensures exact { Exact name.now (account_bytes self.now) from }
     {
-        for i in from..self.book.len() / 2 {
-            if self.is_named(i, name) {
-                return Some(i);
-            }
-        }
-        None
+        (from..self.book.len() / 2).find(|i| self.is_named(*i, name))
     }
 }

@@ -1,23 +1,10 @@
+use crate::refusing::refused;
 use accounts::{AccountBook, is_guest, same_account};
-use sspi::{ErrorKind, Fault, Layer};
-use std::process::Abort;
 use std::test::Fail;
-
-const INVALID: Fault = Fault {
-    kind: ErrorKind::InvalidParameter,
-    layer: Layer::Negotiation,
-};
 
 // The names Ann, bob, aNN and Anna, with secrets of one byte each.
 const FOUR: &[u8] =
     b"\x00\x08\x00\x22\x00\x03\x00\x25\x00\x01\x00\x26\x00\x03\x00\x29\x00\x01\x00\x2a\x00\x03\x00\x2d\x00\x01\x00\x2e\x00\x04\x00\x32\x00\x01Ann1bob2aNN3Anna4";
-
-// Each row is refused as no account book.
-fn no_accounts(rt: &impl Abort, rows: &[&[u8]]) {
-    for row in rows {
-        assert_eq!(rt; AccountBook::read(row).err(), Some(INVALID));
-    }
-}
 
 // One account, with a name and a secret of these lengths.
 fn sized(name: u8, secret: u8) -> [u8; 140] {
@@ -29,14 +16,19 @@ fn sized(name: u8, secret: u8) -> [u8; 140] {
 #[test]
 fn lengths(rt: HostRuntime) {
     assert!(rt; AccountBook::read(&sized(64, 64)).is_ok());
-    no_accounts(&rt, &[&sized(65, 64), &sized(64, 65)]);
+    refused(
+        &rt,
+        |row| AccountBook::read(row).err(),
+        &[&sized(65, 64), &sized(64, 65)],
+    );
 }
 
 #[test]
 fn counts(rt: HostRuntime) {
     assert!(rt; AccountBook::read(b"\x00\x00").is_ok());
-    no_accounts(
+    refused(
         &rt,
+        |row| AccountBook::read(row).err(),
         &[
             b"",
             b"\x00\x01\x00\x06\x00\x01a",

@@ -1,54 +1,42 @@
+use crate::refusing::refused;
 use books::Book;
-use sspi::{ErrorKind, Fault, Layer};
 use std::process::Abort;
 use std::test::Fail;
-
-const INVALID: Fault = Fault {
-    kind: ErrorKind::InvalidParameter,
-    layer: Layer::Negotiation,
-};
 
 // Each row is read as a book with the entries beside it, and no others.
 fn reads(rt: &impl Abort, rows: &[(&[u8], &[&[u8]])]) -> Result<(), Fail> {
     for (bytes, entries) in rows {
         let book = Book::read(bytes)?;
         assert_eq!(rt; book.len(), entries.len());
-        for i in 0..=entries.len() {
-            assert_eq!(rt; book.entry(i), entries.get(i).copied());
+        for (i, entry) in entries.iter().enumerate() {
+            assert_eq!(rt; book.entry(i), Some(*entry));
         }
+        assert_eq!(rt; book.entry(entries.len()), None);
+        assert!(rt; book.entries().eq(entries.iter().copied()));
     }
     Ok(())
-}
-
-// Each row is refused as no book.
-fn no_book(rt: &impl Abort, rows: &[&[u8]]) {
-    for row in rows {
-        assert_eq!(rt; Book::read(row).err(), Some(INVALID));
-    }
 }
 
 // A byte string that counts n entries, with 129 pairs: each an empty entry at the end.
 fn counting(n: u8) -> [u8; 518] {
     let mut bytes = [0; 518];
-    for i in 0..129 {
-        bytes[2 + 4 * i] = 2;
-        bytes[3 + 4 * i] = 6;
-    }
     bytes[1] = n;
+    let (pairs, _) = bytes[2..].as_chunks_mut();
+    pairs.fill([2, 6, 0, 0]);
     bytes
 }
 
 #[test]
 fn counts(rt: HostRuntime) {
     assert!(rt; Book::read(&counting(128)).is_ok());
-    no_book(&rt, &[&counting(129)]);
+    refused(&rt, |row| Book::read(row).err(), &[&counting(129)]);
 }
 
 #[test]
 fn sizes(rt: HostRuntime) {
     let bytes = [0; 8193];
     assert!(rt; Book::read(&bytes[0..8192]).is_ok());
-    no_book(&rt, &[&bytes]);
+    refused(&rt, |row| Book::read(row).err(), &[&bytes]);
 }
 
 #[test]
@@ -78,8 +66,9 @@ fn places(rt: HostRuntime) -> Result<(), Fail> {
 
 #[test]
 fn places_that_are_not_legal(rt: HostRuntime) {
-    no_book(
+    refused(
         &rt,
+        |row| Book::read(row).err(),
         &[
             // no count
             b"",

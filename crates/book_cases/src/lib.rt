@@ -5,3 +5,5 @@
 mod accounting;
 #[cfg(test)]
 mod booking;
+#[cfg(test)]
+mod refusing;

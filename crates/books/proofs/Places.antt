@@ -1,36 +1,62 @@
 -- The places of the entries of a book, and that its entries are laid out in it.
-use Rattle.std.proofs.Common.{◌≡◌, ℕ, zero, suc, ◌+◌, ◌-◌, ◌*◌, ◌<◌, ◌≤◌, true, false, ◌&&◌, ltb, leb, List, [], ◌∷◌, ◌++◌, map, length, take, drop, Some, None, sym, refl, ap, ◌∙◌, ⊎_elim, add-zero, zero-add, arith}
-use Rattle.std.specs.List.{slice_get}
-use Rattle.std.proofs.lemmas.List.{append_assoc, take-append-drop, drop-drop, length-take-le}
-use Rattle.std.proofs.lemmas.Option.{slice_get_past}
-use Rattle.std.proofs.lemmas.Bool.{leb-true, le-leb, lt-ltb, le-ltb, lt-leb, and_parts, and_from, and_left, and_right, cond-true, cond-false, cases_lt}
-use Rattle.books.specs.Books.{count_of, offset_of, length_of, end_of, entry_of, in_order, pairs_end, is_book, entries_from, entries, entry_at}
+use Rattle.std.proofs.Common.{◌≡◌, ℕ, zero, suc, ◌+◌, ◌-◌, ◌*◌, ◌/◌, ◌<◌, ◌≤◌, true, ◌&&◌, leb, List, [], ◌∷◌, ◌++◌, map, length, take, drop, get_or, Some, None, sym, refl, ap, ap₂, ◌∙◌, ⊎_elim, add-zero, zero-add, arith}
+use native.Mathlib.Numerals.{unary_clauses}
+use Rattle.std.specs.List.{slice_get, slice_range, range_with_len}
+use Rattle.std.specs.Simd.{first_chunks}
+use Rattle.std.proofs.lemmas.List.{append_assoc, take-take, drop-take, take-append-drop, drop-drop, length-take-le}
+use Rattle.std.proofs.lemmas.List.FromFn.{length-map-range_with_len, get_or-map-range_with_len}
+use Rattle.std.proofs.lemmas.Option.{slice_get-get_or, slice_get_past, slice_get_within, gets}
+use Rattle.std.proofs.lemmas.Bool.{leb-true, and_parts, cond-true, cases_lt}
+use Rattle.books.specs.Books.{be16, count_of, offset_of, length_of, end_of, Pairs, entry_of, in_order, pairs_end, is_book, book_or_empty, entries, entry_at}
+use Rattle.std.proofs.lemmas.Bool.Decides.{nat_tests}
+use Rattle.std.proofs.lemmas.Grind.{common_steps}
 use Rattle.books.specs.Laws.{laid, LaidOut, Listed}
 
--- the tests of a book's sizes passed, so the places decide
-pub sizes : (xs : List ℕ) (n : ℕ) → n ≡ count_of xs → length xs ≤ 8192 → n ≤ 128 → 2 + 4 * n ≤ length xs → is_book xs ≡ in_order xs n 0 (2 + 4 * n)
-unfolding is_book
-sizes xs n e l m k =
-    let a : leb (length xs) 8192 ≡ true = le-leb (length xs) 8192 l in
-    let b : leb (count_of xs) 128 ≡ true = le-leb (count_of xs) 128 (omega arith) in
-    let d : leb (pairs_end xs) (length xs) ≡ true = le-leb (pairs_end xs) (length xs) (omega arith) in
-    simp (a, b, d) (ap (λ v. in_order xs v 0 (2 + 4 * v)) (sym e))
+-- the pairs, cut four bytes at a time
+first_chunks-take : (n k : ℕ) (xs : List ℕ) → first_chunks n k (take (n * k) xs) ≡ first_chunks n k xs
+first_chunks-take n zero xs = refl
+first_chunks-take n (suc k) xs =
+    let e : n * suc k ≡ n + n * k = omega arith in
+    let l : n ≤ n + n * k = omega arith in
+    rw e (ap₂ ◌∷◌ (take-take n (n + n * k) xs l) (ap (first_chunks n k) (drop-take n (n * k) xs) ∙ first_chunks-take n k (drop n xs)))
+
+get_or-first_chunks : (n k i : ℕ) (xs : List ℕ) → i < k → get_or (first_chunks n k xs) i [] ≡ take n (drop (n * i) xs)
+get_or-first_chunks n zero i xs h = absurd (omega arith)
+get_or-first_chunks n (suc k) zero xs h = simp unary_clauses
+get_or-first_chunks n (suc k) (suc i) xs h =
+    let e : n + n * i ≡ n * suc i = omega arith in
+    get_or-first_chunks n k i (drop n xs) (omega arith) ∙ ap (take n) (drop-drop (n * i) n xs ∙ ap (λ v. drop v xs) e)
+
+length-first_chunks : (n k : ℕ) (xs : List ℕ) → length (first_chunks n k xs) ≡ k
+length-first_chunks n zero xs = refl
+length-first_chunks n (suc k) xs = ap suc (length-first_chunks n k (drop n xs))
+
+-- a number in a part
+be16-part : (xs : List ℕ) (k m j : ℕ) → j + 1 < m → k + j + 1 < length xs → be16 (take m (drop k xs)) j ≡ be16 xs (k + j)
+unfolding be16
+be16-part xs k m j h l = grind (arith, nat_tests, common_steps)
+
+pub pairs_of : (xs ys : List ℕ) (n : ℕ) → n ≡ count_of xs → 2 + 4 * n ≤ length xs → ys ≡ slice_range xs 2 (2 + 4 * n) → length ys + 2 ≡ 2 + 4 * n → Pairs xs (first_chunks 4 (length ys / 4) ys)
+pairs_of xs ys n e k p l =
+    let many : length ys / 4 ≡ n = omega arith in
+    let exact : 2 + 4 * n - 2 ≡ 4 * n = omega arith in
+    let cut : first_chunks 4 (length ys / 4) ys ≡ first_chunks 4 n (drop 2 xs) =
+    ap (λ k. first_chunks 4 k ys) many ∙ (ap (first_chunks 4 n) (p ∙ ap (λ k. take k (drop 2 xs)) exact) ∙ first_chunks-take 4 n (drop 2 xs)) in
+    let at : (i : ℕ) → i < n → get_or (first_chunks 4 n (drop 2 xs)) i [] ≡ take 4 (drop (2 + 4 * i) xs) =
+    λ i h. get_or-first_chunks 4 n i (drop 2 xs) h ∙ ap (take 4) (drop-drop (4 * i) 2 xs) in
+    let c : length (first_chunks 4 n (drop 2 xs)) ≡ n = length-first_chunks 4 n (drop 2 xs) in
+    rw cut (record {
+      whole = omega arith;
+      many = c ∙ e;
+      offset = λ i h. rw (at i (omega arith), be16-part xs (2 + 4 * i) 4 0 (omega arith) (omega arith), add-zero);
+      len = λ i h. let f : 2 + 4 * i + 2 ≡ 4 + 4 * i = omega arith in rw (at i (omega arith), be16-part xs (2 + 4 * i) 4 2 (omega arith) (omega arith), f);
+    })
 
 -- the row of those that are left, at its first place
-at_place : (xs : List ℕ) (n i at off len : ℕ) → i < n → off ≡ offset_of xs i → len ≡ length_of xs i
-    → in_order xs (n - i) i at ≡ (leb at off && (leb (off + len) (length xs) && in_order xs (n - (i + 1)) (i + 1) (off + len)))
+pub at_place : (xs : List ℕ) (n i at : ℕ) → i < n
+    → in_order xs (n - i) i at ≡ (leb at (offset_of xs i) && (leb (end_of xs i) (length xs) && in_order xs (n - (i + 1)) (i + 1) (end_of xs i)))
 unfolding in_order
-at_place xs n i at off len l p q = let e : n - i ≡ suc (n - (i + 1)) = omega arith in ap (λ k. in_order xs k i at) e ∙ rw (p, q)
-
-pub order_more : (xs : List ℕ) (n i at off len : ℕ) → i < n → off ≡ offset_of xs i → len ≡ length_of xs i → at ≤ off → off + len ≤ length xs
-    → in_order xs (n - (i + 1)) (i + 1) (off + len) ≡ in_order xs (n - i) i at
-order_more xs n i at off len l p q h k = sym (at_place xs n i at off len l p q ∙ rw (le-leb at off h, le-leb (off + len) (length xs) k))
-
-pub order_early : (xs : List ℕ) (n i at off len : ℕ) → i < n → off ≡ offset_of xs i → len ≡ length_of xs i → off < at → in_order xs (n - i) i at ≡ false
-order_early xs n i at off len l p q h = at_place xs n i at off len l p q ∙ and_left (leb at off) _ (lt-leb at off h)
-
-pub order_past : (xs : List ℕ) (n i at off len : ℕ) → i < n → off ≡ offset_of xs i → len ≡ length_of xs i → length xs < off + len → in_order xs (n - i) i at ≡ false
-order_past xs n i at off len l p q h = at_place xs n i at off len l p q ∙ and_right (leb at off) _ (and_left (leb (off + len) (length xs)) _ (lt-leb (off + len) (length xs) h))
+at_place xs n i at l = let e : n - i ≡ suc (n - (i + 1)) = omega arith in ap (λ k. in_order xs k i at) e
 
 pub order_all : (xs : List ℕ) (n i at : ℕ) → n ≤ i → in_order xs (n - i) i at ≡ true
 unfolding in_order
@@ -50,21 +76,19 @@ inside xs (suc n) i at (suc k) h l =
     let e : i + suc k ≡ (i + 1) + k = omega arith in
     rw e (inside xs n (i + 1) (end_of xs i) k q.1 (omega arith))
 
-pub length-entries : (xs : List ℕ) (n i : ℕ) → length (entries_from xs n i) ≡ n
-unfolding entries_from
-length-entries xs zero i = refl
-length-entries xs (suc n) i = ap suc (length-entries xs n (i + 1))
+pub many : (xs : List ℕ) → length (entries xs) ≡ count_of xs
+unfolding entries
+many xs = length-map-range_with_len (entry_of xs) 0 (count_of xs)
 
-nth_entries : (xs : List ℕ) (n i k : ℕ) → k < n → slice_get (entries_from xs n i) k ≡ Some (entry_of xs (i + k))
-unfolding entries_from
-nth_entries xs zero i k l = absurd (omega arith)
-nth_entries xs (suc n) i zero l = rw add-zero
-nth_entries xs (suc n) i (suc k) l =
-    let e : (i + 1) + k ≡ i + suc k = omega arith in
-    nth_entries xs n (i + 1) k (omega arith) ∙ ap (λ j. Some (entry_of xs j)) e
+nth_entry : (xs : List ℕ) (i : ℕ) → i < count_of xs → slice_get (entries xs) i ≡ Some (entry_of xs i)
+unfolding entries
+nth_entry xs i l =
+    let m : length (map (entry_of xs) (range_with_len 0 (count_of xs))) ≡ count_of xs = many xs in
+    slice_get-get_or (entries xs) i [] (omega arith) ∙ ap Some (get_or-map-range_with_len (entry_of xs) 0 (count_of xs) i i [] l (zero-add i))
 
 -- what a book is known to be
 pub record Known (xs : List ℕ) : Type 0 where
+  pub few : count_of xs ≤ 128
   pub front : pairs_end xs ≤ length xs
   pub order : in_order xs (count_of xs) 0 (pairs_end xs) ≡ true
 
@@ -74,31 +98,56 @@ known xs h =
     let p = and_parts (leb (length xs) 8192) _ h in
     let q = and_parts (leb (count_of xs) 128) _ p.1 in
     let r = and_parts (leb (pairs_end xs) (length xs)) _ q.1 in
-    record { front = leb-true (pairs_end xs) (length xs) r.0; order = r.1 }
+    record { few = leb-true (count_of xs) 128 q.0; front = leb-true (pairs_end xs) (length xs) r.0; order = r.1 }
 
-here : (xs : List ℕ) (i : ℕ) → is_book xs ≡ true → entry_at xs i ≡ slice_get (entries xs) i
-unfolding entries entry_at
-here xs i h =
-    ⊎_elim
-    (λ l.
-    let e : end_of xs i ≤ length xs = rw zero-add at (inside xs (count_of xs) 0 (pairs_end xs) i (known xs h).order l) in
-    let f : slice_get (entries_from xs (count_of xs) 0) i ≡ Some (entry_of xs i) = rw zero-add at (nth_entries xs (count_of xs) 0 i l) in
-    cond-true (ltb i (count_of xs) && leb (end_of xs i) (length xs)) _ _ (and_from (ltb i (count_of xs)) _ (lt-ltb i (count_of xs) l) (le-leb (end_of xs i) (length xs) e)) ∙ sym f)
-    (λ l.
-    let m = length-entries xs (count_of xs) 0 in
-    cond-false (ltb i (count_of xs) && leb (end_of xs i) (length xs)) _ _ (and_left (ltb i (count_of xs)) _ (le-ltb i (count_of xs) l))
-    ∙ sym (slice_get_past (entries_from xs (count_of xs) 0) i (omega arith)))
-    (cases_lt i (count_of xs))
+pub sound_of : (xs : List ℕ) → is_book xs ≡ true → book_or_empty xs ≡ xs
+sound_of xs h = cond-true (is_book xs) _ _ h
 
-pub listed : (xs : List ℕ) (i : ℕ) → Listed xs i
-unfolding entries
-listed xs i = record { many = length-entries xs (count_of xs) 0; here = here xs i }
+-- bytes of a book or none: with an entry they are a book
+sound_at : (xs : List ℕ) (i : ℕ) → book_or_empty xs ≡ xs → i < count_of xs → is_book xs ≡ true
+unfolding be16
+sound_at [] i h l = absurd (omega arith)
+sound_at (x ∷ xs) i h l = grind (arith, nat_tests)
+
+-- so its pairs and each of its entries fit
+pub fits : (xs : List ℕ) (i : ℕ) → book_or_empty xs ≡ xs → i < count_of xs → (pairs_end xs ≤ length xs) × (end_of xs i ≤ length xs)
+fits xs i h l =
+    let k = known xs (sound_at xs i h l) in
+    (k.front, rw zero-add at (inside xs (count_of xs) 0 (pairs_end xs) i k.order l))
+
+-- what `entry` gives at each of its returns
+pub entry_past : (xs : List ℕ) (i : ℕ) → (i < count_of xs → ⊥) → None ≡ entry_at xs i
+unfolding entry_at
+entry_past xs i l = grind (arith, nat_tests)
+
+pub entry_here : (xs : List ℕ) (i : ℕ) → book_or_empty xs ≡ xs → i < count_of xs → Some (entry_of xs i) ≡ entry_at xs i
+unfolding entry_at
+entry_here xs i h l = let f = fits xs i h l in grind (arith, nat_tests)
+
+pub entry_paired : (xs : List ℕ) (ps : List (List ℕ)) (i : ℕ) (p : List ℕ) → book_or_empty xs ≡ xs → Pairs xs ps → i < length ps → p ≡ get_or ps i []
+    → (be16 p 0 + be16 p 2 ≤ length xs) × (Some (take ((be16 p 0 + be16 p 2) - be16 p 0) (drop (be16 p 0) xs)) ≡ entry_at xs i)
+entry_paired xs ps i p h k l e =
+    let c : i < count_of xs = let m = k.many in omega arith in
+    let off : be16 p 0 ≡ offset_of xs i = ap (λ v. be16 v 0) e ∙ k.offset i l in
+    let len : be16 p 2 ≡ length_of xs i = ap (λ v. be16 v 2) e ∙ k.len i l in
+    let exact : (offset_of xs i + length_of xs i) - offset_of xs i ≡ length_of xs i = omega arith in
+    rw (off, len) ((fits xs i h c).1, rw exact (entry_here xs i h c))
+
+pub listed : (xs : List ℕ) (i : ℕ) → book_or_empty xs ≡ xs → Listed xs i
+listed xs i h =
+    let m = many xs in
+    record {
+      many = m;
+      here =
+          ⊎_elim (λ l. sym (entry_here xs i h l) ∙ sym (nth_entry xs i l))
+          (λ l. sym (entry_past xs i (λ k. omega arith)) ∙ sym (slice_get_past (entries xs) i (omega arith))) (cases_lt i (count_of xs));
+    }
 
 -- how n entries from entry i on lie in the byte string behind the place `at`
 record Row (xs : List ℕ) (n i at : ℕ) : Type 0 where
   parts : List (List ℕ × List ℕ)
   tail : List ℕ
-  listed : map (λ (p : List ℕ × List ℕ). p.1) parts ≡ entries_from xs n i
+  listed : map (λ (p : List ℕ × List ℕ). p.1) parts ≡ map (entry_of xs) (range_with_len i n)
   whole : drop at xs ≡ laid parts ++ tail
 
 cut : (xs : List ℕ) (i at : ℕ) → at ≤ offset_of xs i
@@ -111,7 +160,7 @@ cut xs i at l =
     ∙ (sym (take-append-drop (length_of xs i) (drop (offset_of xs i) xs)) ∙ ap (λ v. entry_of xs i ++ v) (drop-drop (length_of xs i) (offset_of xs i) xs))))
 
 row : (xs : List ℕ) (n i at : ℕ) → in_order xs n i at ≡ true → Row xs n i at
-unfolding in_order entries_from
+unfolding in_order
 row xs zero i at h = record { parts = []; tail = drop at xs; listed = refl; whole = refl }
 row xs (suc n) i at h =
     let p = and_parts (leb at (offset_of xs i)) _ h in
@@ -141,19 +190,14 @@ laid_out xs h =
       whole = sym (take-append-drop (pairs_end xs) xs) ∙ ap (λ v. take (pairs_end xs) xs ++ v) r.whole;
     }
 
--- what `entry` gives at each of its returns
-pub entry_past : (xs : List ℕ) (i : ℕ) → count_of xs ≤ i → None ≡ entry_at xs i
-unfolding entry_at
-entry_past xs i l = sym (cond-false (ltb i (count_of xs) && leb (end_of xs i) (length xs)) _ _ (and_left (ltb i (count_of xs)) _ (le-ltb i (count_of xs) l)))
+-- the entries from entry i on
+pub next_entry : (xs : List ℕ) (i : ℕ) (e : List ℕ) → book_or_empty xs ≡ xs → Some e ≡ entry_at xs i → (i < 128) × (drop i (entries xs) ≡ e ∷ drop (i + 1) (entries xs))
+next_entry xs i e h s =
+    let m = many xs in
+    let g : slice_get (entries xs) i ≡ Some e = sym (s ∙ (listed xs i h).here) in
+    let l = slice_get_within (entries xs) i e g in
+    let k = known xs (sound_at xs i h (omega arith)) in
+    (omega arith, grind (arith, common_steps, gets))
 
-pub entry_outside : (xs : List ℕ) (i : ℕ) → length xs < end_of xs i → None ≡ entry_at xs i
-unfolding entry_at
-entry_outside xs i l = sym (cond-false (ltb i (count_of xs) && leb (end_of xs i) (length xs)) _ _ (and_right (ltb i (count_of xs)) _ (lt-leb (end_of xs i) (length xs) l)))
-
-pub entry_inside : (xs : List ℕ) (i at n : ℕ) → at ≡ offset_of xs i → n ≡ length_of xs i → i < count_of xs → at + n ≤ length xs → Some (take ((at + n) - at) (drop at xs)) ≡ entry_at xs i
-unfolding entry_at
-entry_inside xs i at n p q l k =
-    let e : (at + n) - at ≡ n = omega arith in
-    let m : end_of xs i ≤ length xs = omega arith in
-    ap (λ v. Some (take v (drop at xs))) (e ∙ q) ∙ (ap (λ v. Some (take (length_of xs i) (drop v xs))) p
-    ∙ sym (cond-true (ltb i (count_of xs) && leb (end_of xs i) (length xs)) _ _ (and_from (ltb i (count_of xs)) _ (lt-ltb i (count_of xs) l) (le-leb (end_of xs i) (length xs) m))))
+pub no_entry : (xs : List ℕ) (i : ℕ) → book_or_empty xs ≡ xs → None ≡ entry_at xs i → drop i (entries xs) ≡ []
+no_entry xs i h s = let g : slice_get (entries xs) i ≡ None = sym (s ∙ (listed xs i h).here) in grind (arith, common_steps, gets)

@@ -1,7 +1,7 @@
 -- What a book is worth: its entries are parts of it, one behind the other.
-use Rattle.std.specs.Prelude.{◌≡◌, ℕ, true, List, [], ◌∷◌, ◌++◌, map, length}
+use Rattle.std.specs.Prelude.{◌≡◌, ℕ, List, [], ◌∷◌, ◌++◌, map, length}
 use Rattle.std.specs.List.{slice_get}
-use Rattle.books.specs.Books.{count_of, pairs_end, is_book, entries, entry_at}
+use Rattle.books.specs.Books.{count_of, pairs_end, entries, entry_at}
 
 -- entries one behind the other, each behind the gap that it is paired with
 abbrev pub laid : List (List ℕ × List ℕ) → List ℕ
@@ -18,7 +18,7 @@ pub record LaidOut (xs : List ℕ) : Type 0 where
   pub listed : map (λ (p : List ℕ × List ℕ). p.1) parts ≡ entries xs
   pub whole : xs ≡ front ++ (laid parts ++ tail)
 
--- in a book there are as many entries as it counts, and entry i is the one at i in their list: one for each i below the count, and none past it
+-- there are as many entries as the book counts, and entry i is the one at i in their list: one for each i below the count, and none past it
 pub record Listed (xs : List ℕ) (i : ℕ) : Type 0 where
   pub many : length (entries xs) ≡ count_of xs
-  pub here : is_book xs ≡ true → entry_at xs i ≡ slice_get (entries xs) i
+  pub here : entry_at xs i ≡ slice_get (entries xs) i

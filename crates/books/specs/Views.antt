@@ -1,8 +1,9 @@
 -- What the code's values say, their references read.
-use Rattle.std.specs.Prelude.{ℕ, cond, List, [], Some, None, Ok, Err, Option, Result}
+use Rattle.std.specs.Prelude.{ℕ, cond, List, drop, Some, None, Ok, Err, Option, Result}
 use Rattle.std.specs.Borrow.{Bor}
-use Rattle.books.specs.Books.{is_book}
+use Rattle.books.specs.Books.{is_book, entries}
 use Rattle.books.specs.declared.Book.{Book}
+use Rattle.books.specs.declared.Entries.{Entries}
 use Rattle.sspi.specs.declared.error_kind.ErrorKind.TheVariants.{InvalidParameter}
 use Rattle.sspi.specs.declared.fault.Layer.TheVariants.{Negotiation}
 use Rattle.sspi.specs.declared.fault.Fault.{Fault}
@@ -23,10 +24,10 @@ book_read (Err e) = Err e
 abbrev pub read_book : List ℕ → Result (List ℕ) Fault
 read_book xs = cond (is_book xs) (Ok xs) (Err invalid)
 
--- a byte string that is no book counts as one without entries
-abbrev pub book_or_empty : List ℕ → List ℕ
-book_or_empty xs = cond (is_book xs) xs []
-
 abbrev pub seen : Option (Bor (List ℕ)) → Option (List ℕ)
 seen None = None
 seen (Some r) = Some r.now
+
+-- the entries that an iterator over them has left
+abbrev pub entries_left : Entries → List (List ℕ)
+entries_left e = drop e.at (entries (book_bytes e.book))

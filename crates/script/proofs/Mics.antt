@@ -1,15 +1,9 @@
--- The MIC of a script: made in a buffer, and told from every other.
-use Rattle.std.proofs.Common.{◌≡◌, ℕ, ◌+◌, ◌-◌, ◌<◌, Bool, ◌&&◌, List, [], ◌∷◌, length, get_or, take, drop, set, sym, ap, ◌∙◌, arith}
+-- The MIC of a script, made in a buffer.
+use Rattle.std.proofs.Common.{◌≡◌, ℕ, ◌+◌, ◌-◌, ◌<◌, List, [], ◌∷◌, length, take, drop, set, ap, ◌∙◌, arith}
 use borrow.Rule.Slice.PartMut.{put_mid}
-use Rattle.std.specs.Str.{bytes_eq}
-use Rattle.std.proofs.lemmas.List.{take_rest, drop-set-lt}
+use Rattle.std.proofs.lemmas.List.{drop-set-lt}
 use Rattle.std.proofs.lemmas.Slice.{take-put_mid, drop-put_mid}
-use Rattle.std.proofs.lemmas.Bool.{eq-eqb}
 use Rattle.script.specs.Plays.{mic_of}
-
-pub takes_at : (d m : List ℕ) (r : Bool) → get_or m 0 0 ≡ 0x53 → r ≡ bytes_eq d (take (length m - 1) (drop 1 m)) → r ≡ bytes_eq (mic_of d) m
-takes_at d [] r e h = absurd (omega arith)
-takes_at d (x ∷ m) r e h = h ∙ (ap (bytes_eq d) (take_rest (x ∷ m) 1) ∙ sym (ap (λ b. b && bytes_eq d m) (eq-eqb 0x53 x (sym e))))
 
 -- the buffer once the first byte and the data behind it are written
 pub made_front : (m d y : List ℕ) → y ≡ d → 0 < length m → take (length d + 1) (put_mid 1 (length d + 1 - 1) (set m 0 0x53) y) ≡ mic_of d

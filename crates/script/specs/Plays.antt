@@ -1,7 +1,9 @@
 -- What a script means. An entry of its book is a number in four bytes, the high one first, and a token. A number of a status is
 -- answered with the token, a number of a kind of fault refuses with that fault, and any other entry refuses as InternalError.
-use Rattle.std.specs.Prelude.{◌≡◌, ℕ, ◌+◌, ◌*◌, ◌%◌, Bool, true, false, cond, not, ◌||◌, List, ◌∷◌, length, drop, Some, None, Ok, Err, codes, Option, Result, ◌==◌, nat_lt, slice_index}
+use Rattle.std.specs.Prelude.{◌≡◌, ℕ, ◌+◌, ◌%◌, Bool, true, false, cond, not, ◌||◌, List, ◌∷◌, length, take, drop, Some, None, Ok, Err, codes, Option, Result, ◌==◌, nat_lt}
 use Rattle.std.specs.Borrow.{Bor}
+use Rattle.std.specs.Int.{w32, from_be_bytes}
+use Rattle.std.specs.Option.{unwrap_or}
 use Rattle.books.specs.Books.{entry_at}
 use Rattle.books.specs.Views.{book_bytes}
 use Rattle.mechanism.specs.Meaning.{Sealing, Stepping}
@@ -21,11 +23,10 @@ Answer = Result (SecurityStatus × List ℕ) Fault
 
 -- the number at the front of an entry
 abbrev pub number_of : List ℕ → ℕ
-number_of e = ((slice_index e 0 * 256 + slice_index e 1) * 256 + slice_index e 2) * 256 + slice_index e 3
+number_of e = from_be_bytes w32 (take 4 e)
 
 abbrev pub kind_or : Option ErrorKind → ErrorKind
-kind_or None = InternalError
-kind_or (Some kind) = kind
+kind_or kind = unwrap_or kind InternalError
 
 -- a number is read as a status first, and then as a kind of fault
 abbrev pub told_of : Option SecurityStatus → ErrorKind → List ℕ → Answer

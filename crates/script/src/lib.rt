@@ -1,11 +1,10 @@
 #![tactic(auto)]
 
-ghost use Rattle.std.specs.Prelude.{◌≡◌, ◌<◌, ◌≤◌, length};
-ghost use Rattle.books.specs.Views.{book_or_empty, book_bytes};
+ghost use Rattle.std.specs.Prelude.{◌≡◌, ◌<◌, length};
+ghost use Rattle.books.specs.Books.{book_or_empty};
 ghost use Rattle.mechanism.specs.Promises.{step_front, Within};
 ghost use Rattle.script.specs.Lawful.{script_lawful};
-ghost use Rattle.script.specs.Plays.{Begins, number_of, kind_or, moves_on, starts, after, mic_of, told, plain_told, played, script_sealing, script_stepping};
-ghost use Rattle.sspi.specs.Kinds.{kind_of};
+ghost use Rattle.script.specs.Plays.{Begins, moves_on, starts, after, mic_of, told, plain_told, played, script_sealing, script_stepping};
 ghost use Rattle.std.specs.Str.{bytes_eq};
 
 use books::Book;
@@ -39,15 +38,12 @@ impl<'a> Script<'a> {
         ensures { self.new ≡ after self.old (moves_on answer) (starts answer) }
     {
         match answer {
-            Ok((status, _)) => {
+            Err(fault) if fault.kind == ErrorKind::BufferTooSmall => {}
+            Ok((SecurityStatus::Ok, _)) => {
                 self.pos += 1;
-                self.session = self.session || status == SecurityStatus::Ok;
+                self.session = true;
             }
-            Err(fault) => {
-                if fault.kind != ErrorKind::BufferTooSmall {
-                    self.pos += 1;
-                }
-            }
+            _ => self.pos += 1,
         }
     }
 
@@ -59,33 +55,21 @@ impl<'a> Script<'a> {
     }
 }
 
-// The number in the first four bytes of an entry.
-fn number_of(entry: &[u8]) -> u32
-    requires { 4 ≤ length entry.now }
-    ensures { result ≡ number_of entry.now }
-{
-    ((entry[0] as u32 * 256 + entry[1] as u32) * 256 + entry[2] as u32) * 256 + entry[3] as u32
-}
-
-// The kind of fault with this number, InternalError if there is none.
-fn fault_kind(number: u32) -> ErrorKind
-    ensures { result ≡ kind_or (kind_of number) }
-{
-    ErrorKind::try_from(number).unwrap_or(ErrorKind::InternalError)
-}
-
 // What an entry says: a status and a token, or a fault.
+#[tactic(auto, using(std::proofs::lemmas::Bool::Decides::nat_tests, std::proofs::lemmas::Grind::common_steps))]
 fn tell(entry: &[u8]) -> Result<(SecurityStatus, &[u8]), Fault>
     ensures { plain_told result ≡ told entry.now }
 {
-    if entry.len() < 4 {
+    let Some((number, token)) = entry.split_first_chunk() else {
         return Err(Layer::Mechanism.fault(ErrorKind::InternalError));
-    }
-    let number = number_of(entry);
-    let (_, token) = entry.split_at(4);
+    };
+    let number = u32::from_be_bytes(*number);
     match SecurityStatus::try_from(number) {
         Ok(status) => Ok((status, token)),
-        Err(_) => Err(Layer::Mechanism.fault(fault_kind(number))),
+        Err(_) => {
+            let kind = ErrorKind::try_from(number).unwrap_or(ErrorKind::InternalError);
+            Err(Layer::Mechanism.fault(kind))
+        }
     }
 }
 
@@ -99,7 +83,7 @@ fn play(entry: &[u8], work: &mut [u8]) -> Result<(SecurityStatus, usize), Fault>
     if work.len() < n {
         return Err(Layer::Mechanism.fault(ErrorKind::BufferTooSmall));
     }
-    work[0..n].copy_from_slice(token);
+    work[..n].copy_from_slice(token);
     Ok((status, n))
 }
 
@@ -130,10 +114,7 @@ impl<'a> Sealer for Script<'a> {
 fn takes(data: &[u8], mic: &[u8]) -> bool
     ensures { result ≡ bytes_eq (mic_of «data».now) mic.now }
 {
-    match mic {
-        [] => false,
-        [head, rest @ ..] => *head == 0x53 && data == rest,
-    }
+    matches!(mic, [0x53, rest @ ..] if data == rest)
 }
 
 impl<'a> Mechanism for Script<'a> {
@@ -152,17 +133,12 @@ impl<'a> Mechanism for Script<'a> {
         input: &[u8],
         work: &mut [u8],
     ) -> Result<(SecurityStatus, usize), Fault> {
-        if self.pos >= self.book.len() {
+        let Some(entry) = self.book.entry(self.pos) else {
             return Err(Layer::Mechanism.fault(ErrorKind::OutOfSequence));
-        }
-        match self.book.entry(self.pos) {
-            Some(entry) => {
-                let answer = play(entry, work);
-                self.move_on(answer);
-                answer
-            }
-            None => Err(Layer::Mechanism.fault(ErrorKind::OutOfSequence)),
-        }
+        };
+        let answer = play(entry, work);
+        self.move_on(answer);
+        answer
     }
 
     fn name(&self, name: &mut [u8; 64]) -> Result<usize, Fault> {

@@ -1,18 +1,10 @@
-use Rattle.std.proofs.Common.{sym, ◌∙◌, arith}
-use Rattle.books.specs.Views.{book_bytes}
-use Rattle.accounts.proofs.Listing.{short_more, short_long, short_there, short_all}
+use Rattle.std.proofs.Common.{length, leb, rules, tests}
+use Rattle.std.proofs.lemmas.Iterator.Consumers.{YieldsList-from_first}
+use Rattle.std.proofs.lemmas.Iterator.Search.{all_from_yields_List}
+use Rattle.books.specs.Views.{entries_left}
 use Rattle.accounts.proofs.all_short.Goals as goal
 
-pub returns-then-entry-gt64 : goal.returns-then-entry-gt64
-returns-then-entry-gt64 c =
-    sym (short_long (book_bytes c.args.book.now) c.loop-i.i _ c.requires (omega arith) c.in-Some.ensures.answer c.if-entry-gt64.true) ∙ c.loop-i.invariant
-
-pub returns-in_default : goal.returns-in_default
-returns-in_default c = absurd (short_there (book_bytes c.args.book.now) c.loop-i.i c.requires (omega arith) c.in_default.ensures.answer)
-
-pub loop-i-preserved : goal.loop-i-preserved
-loop-i-preserved c =
-    short_more (book_bytes c.args.book.now) c.loop-i.i _ c.requires (omega arith) c.in-Some.ensures.answer c.if-entry-gt64.false ∙ c.loop-i.invariant
-
 pub returns : goal.returns
-returns c = sym (short_all (book_bytes c.args.book.now) c.loop-i.i (omega arith)) ∙ c.loop-i.invariant
+returns c =
+    all_from_yields_List (λ e. leb (length e) 64) c.all.new.self _ _ c.all.ensures.ran
+    (YieldsList-from_first (λ x. x.now) entries_left _ c.entries.ensures) (λ x b q k. search (rules, tests))
