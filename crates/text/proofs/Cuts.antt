@@ -1,11 +1,15 @@
 -- Cutting text at marks, and comparing it with case ignored.
-use Rattle.std.proofs.Common.{◌≡◌, ℕ, zero, suc, ◌+◌, ◌<◌, Bool, true, false, cond, eqb, List, [], ◌∷◌, length, get_or, take, drop, map, is_some, Some, None, MatchBool, Option, Bor, sym, refl, ap, ◌∙◌, true≢false, arith}
+use Rattle.std.proofs.Common.{◌≡◌, ℕ, zero, suc, ◌+◌, ◌<◌, ◌≤◌, Bool, true, false, cond, eqb, List, [], ◌∷◌, length, get_or, take, drop, map, is_some, Some, None, MatchBool, Option, Bor, sym, refl, ap, ◌∙◌, true≢false, arith}
 use Rattle.std.proofs.lemmas.Bool.{eq-eqb, ne_eqb}
+use Rattle.std.proofs.lemmas.Iterator.{YieldsList}
+use Rattle.std.proofs.lemmas.Iterator.Consumers.{YieldsList-from_first}
+use Rattle.std.specs.Iterator.{YieldsFirstRef}
 use Rattle.std.specs.List.{last_or}
 use Rattle.std.specs.Option.{unwrap_or}
 use Rattle.std.specs.Str.{bytes_eq}
 use Rattle.std.proofs.lemmas.Slice.Eq.{bytes_eq-Decides}
-use Rattle.text.specs.Pieces.{longer, pieces, up_to, behind, others, last_of, after_last}
+use Rattle.text.specs.Pieces.{longer, pieces, up_to, behind, others, last_of, after_last, pieces_left}
+use Rattle.text.specs.declared.walk.Pieces.{Pieces}
 
 pub same_when : (xs ys : List ℕ) (r : Bool) → MatchBool r (xs ≡ ys) (xs ≡ ys → ⊥) → r ≡ bytes_eq xs ys
 same_when xs ys true e = sym ((bytes_eq-Decides xs ys).1 e)
@@ -74,3 +78,21 @@ last_read x d (y ∷ xs) = last_read y d xs
 pub last_piece : (mark : ℕ) (text : List ℕ) (d : Bor (List ℕ)) (xs : List (Bor (List ℕ))) → map (λ y. y.now) xs ≡ pieces mark text → (unwrap_or (last_or None xs) d).now ≡ after_last mark text
 last_piece mark text d [] e = cc (pieces_cut mark text)
 last_piece mark text d (x ∷ xs) e = last_read x d xs ∙ ap last_of e
+
+-- there is one piece more than there are marks
+length-longer : (x : ℕ) (ps : List (List ℕ)) → length (longer x ps) ≡ length ps
+length-longer x [] = refl
+length-longer x (p ∷ ps) = refl
+
+pub pieces_count : (mark : ℕ) (xs : List ℕ) → length (pieces mark xs) ≤ length xs + 1
+unfolding pieces
+pieces_count mark [] = omega arith
+pieces_count mark (x ∷ xs) = by (eqb x mark) (pieces mark xs) (pieces_count mark xs)
+  where
+    by : (t : Bool) (ps : List (List ℕ)) → length ps ≤ length xs + 1 → length (cond t ([] ∷ ps) (longer x ps)) ≤ length (x ∷ xs) + 1
+    by true ps h = omega arith
+    by false ps h = omega (arith, length-longer x ps)
+
+-- an iterator over some pieces gives them
+pub gives_pieces : {p : Pieces} {ps : List (List ℕ)} → pieces_left p ≡ ps → YieldsList (YieldsFirstRef pieces_left) (λ y. y.now) p ps
+gives_pieces e = YieldsList-from_first (λ (y : Bor (List ℕ)). y.now) pieces_left _ e

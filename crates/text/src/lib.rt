@@ -1,6 +1,6 @@
 #![tactic(auto)]
 
-ghost use Rattle.std.specs.Prelude.{◌≡◌, ◌∷◌};
+ghost use Rattle.std.specs.Prelude.{◌≡◌, ◌+◌, ◌≤◌, ◌∷◌, length};
 ghost use Rattle.text.specs.Cases.{same_ignoring_case};
 ghost use Rattle.text.specs.Pieces.{pieces, up_to, behind, others, after_last, pieces_left, seen};
 
@@ -22,9 +22,13 @@ pub fn split_once(text: &[u8], mark: u8) -> (&[u8], Option<&[u8]>)
 
 // The pieces of the text between the marks, in order.
 pub fn pieces(text: &[u8], mark: u8) -> Pieces<'_>
-    ensures { pieces_left result ≡ pieces mark text.now }
+    ensures all { pieces_left result ≡ pieces mark text.now }
+    ensures count { length (pieces_left result) ≤ length text.now + 1 }
 {
-    Pieces::new(text, mark)
+    Pieces {
+        rest: Some(text),
+        mark,
+    }
 }
 
 // What stands behind the last mark: the whole text if there is none.

@@ -1,25 +1,13 @@
-ghost use Rattle.std.specs.Prelude.{◌≡◌};
 ghost use Rattle.std.specs.Iterator.{YieldsFirstRef, item_count};
-ghost use Rattle.text.specs.Pieces.{pieces, pieces_left};
+ghost use Rattle.text.specs.Pieces.{pieces_left};
 
 use crate::split_once;
 
 // Gives the pieces of a text that are still to come; at the end none is left.
 #[derive(Drop)]
 pub struct Pieces<'a> {
-    rest: Option<&'a [u8]>,
-    mark: u8,
-}
-
-impl<'a> Pieces<'a> {
-    pub(crate) fn new(text: &'a [u8], mark: u8) -> Pieces<'a>
-        ensures { pieces_left result ≡ pieces mark text.now }
-    {
-        Pieces {
-            rest: Some(text),
-            mark,
-        }
-    }
+    pub(crate) rest: Option<&'a [u8]>,
+    pub(crate) mark: u8,
 }
 
 impl<'a> Iterator for Pieces<'a> {
