@@ -37,7 +37,7 @@ fn words(rt: HostRuntime) {
         ("NTLM,Kerberos", Err(UNKNOWN)),
     ];
     for (word, want) in rows {
-        assert_eq!(rt; Protocol::from_word(word), want);
+        assert_eq!(rt; word.parse::<Protocol>(), want);
     }
 }
 

@@ -1,26 +1,14 @@
 -- What a package list says, entry by entry, and its laws.
-use Rattle.std.proofs.Common.{◌≡◌, ℕ, ◌-◌, ◌<◌, Bool, true, false, cond, not, ◌&&◌, ◌||◌, eqb, List, [], ◌∷◌, map, length, get_or, take, drop, Some, None, Option, sym, refl, ap, ◌∙◌, arith, lit<, Bor}
+use Rattle.std.proofs.Common.{◌≡◌, ℕ, ◌<◌, Bool, true, false, cond, not, ◌&&◌, ◌||◌, eqb, List, [], ◌∷◌, map, drop, Some, None, Option, sym, refl, ap, ◌∙◌, arith, lit<}
 use Rattle.packages.specs.Packages.{negative, positive, name_of, names, or_else, or_option, says, all_switch_off, named, opens, entries, each, parsed, ntlm_name, kerberos_name, pku2u_name}
 use Rattle.packages.specs.Walk.{flag_after, after}
 use Rattle.packages.specs.declared.package_list.PackageListConfig.{PackageListConfig}
-use Rattle.std.proofs.lemmas.List.{take_rest}
-use Rattle.std.proofs.lemmas.Bool.{eq-eqb, ne_eqb, cond-true, cond-false, eqb-true}
+use Rattle.std.proofs.lemmas.Bool.{cond-false}
 use Rattle.std.proofs.lemmas.Bool.Decides.{nat_tests}
 use Rattle.std.specs.Char.{to_ascii_lowercase}
 use Rattle.std.specs.Str.{bytes_eq}
 use Rattle.text.specs.Cases.{small, same_ignoring_case}
-use Rattle.text.specs.Pieces.{pieces, longer, others, seen}
-
--- an entry with `!`, and an empty one
-pub sign_on : (e : List ℕ) → get_or e 0 0 ≡ 0x21 → (true ≡ negative e) × (take (length e - 1) (drop 1 e) ≡ name_of e)
-sign_on e h = let n : negative e ≡ true = eq-eqb (get_or e 0 0) 0x21 h in (sym n, take_rest e 1 ∙ sym (cond-true (negative e) (drop 1 e) e n))
-
-pub sign_off : (e : List ℕ) → (get_or e 0 0 ≡ 0x21 → ⊥) → (false ≡ negative e) × (e ≡ name_of e)
-sign_off e h = let n : negative e ≡ false = ne_eqb (get_or e 0 0) 0x21 h in (sym n, sym (cond-false (negative e) (drop 1 e) e n))
-
-pub sign_empty : (e : List ℕ) (r : Bool) → r ≡ eqb (length e) 0 → r ≡ true → (false ≡ negative e) × (e ≡ name_of e)
-sign_empty [] r is t = (refl, refl)
-sign_empty (x ∷ xs) r is t = let l : length (x ∷ xs) ≡ 0 = eqb-true (length (x ∷ xs)) 0 (sym is ∙ t) in absurd (omega arith)
+use Rattle.text.specs.Pieces.{pieces, longer}
 
 -- how a flag ends: d says that every entry so far had `!`, and es are the entries to come
 abbrev pub ends : Bool → Bool → List ℕ → List (List ℕ) → Bool
@@ -51,22 +39,18 @@ ended d c es = record { ntlm = ends d c.ntlm ntlm_name es; kerberos = ends d c.k
 pub walk_step : (d : Bool) (c : PackageListConfig) (e : List ℕ) (es : List (List ℕ)) → ended d c (e ∷ es) ≡ ended (d && negative e) (after d c (negative e) (name_of e)) es
 walk_step d c e es = cc (step d c.ntlm ntlm_name e es, step d c.kerberos kerberos_name e es, step d c.pku2u pku2u_name e es)
 
--- one turn of the walk, and its end
-pub walk_again : (d next off : Bool) (c then want : PackageListConfig) (name e : List ℕ) (was : Option (Bor (List ℕ))) (ref : Bor (List ℕ)) (rest : Option (List ℕ))
-    → was ≡ Some ref → pieces 0x2C ref.now ≡ e ∷ others 0x2C rest → off ≡ negative e → name ≡ name_of e → then ≡ after d c off name → next ≡ (d && off)
-    → ended d c (others 0x2C (seen was)) ≡ want → ended next then (others 0x2C rest) ≡ want
-walk_again d next off c then want name e was ref rest option_is_some cut sign named changed more inv =
-    let at : ended d c (pieces 0x2C ref.now) ≡ want = ap (λ (v : Option (Bor (List ℕ))). ended d c (others 0x2C (seen v))) (sym option_is_some) ∙ inv in
-    let es : List (List ℕ) = others 0x2C rest in
-    ap (λ v. ended v then es) more
-    ∙ (ap (λ (v : PackageListConfig). ended (d && off) v es) (changed ∙ ap (after d c off) named)
+-- one turn of the walk over the entries, its start and its end
+pub walk_again : (d off : Bool) (c then want : PackageListConfig) (name e : List ℕ) (es left : List (List ℕ))
+    → left ≡ e ∷ es → off ≡ negative e → name ≡ name_of e → then ≡ after d c off name
+    → ended d c left ≡ want → ended (d && off) then es ≡ want
+walk_again d off c then want name e es left more sign named changed inv =
+    ap (λ (v : PackageListConfig). ended (d && off) v es) (changed ∙ ap (after d c off) named)
     ∙ (ap (λ v. ended (d && v) (after d c v (name_of e)) es) sign
-    ∙ (sym (walk_step d c e es) ∙ (ap (ended d c) (sym cut) ∙ at))))
+    ∙ (sym (walk_step d c e es) ∙ (ap (ended d c) (sym more) ∙ inv)))
 
-pub walk_start : (list : Option (List ℕ)) → ended true (each (λ _. true)) (others 0x2C list) ≡ parsed list
+pub walk_start : (text : List ℕ) → ended true (each (λ _. true)) (pieces 0x2C text) ≡ parsed (Some text)
 unfolding parsed says all_switch_off
-walk_start None = refl
-walk_start (Some text) = refl
+walk_start text = refl
 
 kept : (d flag : Bool) (p : List ℕ) → ends d flag p [] ≡ flag
 unfolding says all_switch_off
@@ -74,10 +58,10 @@ kept true true p = refl
 kept true false p = refl
 kept false flag p = refl
 
-pub walk_end : (d : Bool) (c want : PackageListConfig) (was : Option (Bor (List ℕ))) → was ≡ None → ended d c (others 0x2C (seen was)) ≡ want → c ≡ want
-walk_end d c want was none inv =
+pub walk_end : (d : Bool) (c want : PackageListConfig) (left : List (List ℕ)) → left ≡ [] → ended d c left ≡ want → c ≡ want
+walk_end d c want left none inv =
     let all : ended d c [] ≡ record { ntlm = c.ntlm; kerberos = c.kerberos; pku2u = c.pku2u } = cc (kept d c.ntlm ntlm_name, kept d c.kerberos kerberos_name, kept d c.pku2u pku2u_name) in
-    sym all ∙ (ap (λ (v : Option (Bor (List ℕ))). ended d c (others 0x2C (seen v))) (sym none) ∙ inv)
+    sym all ∙ (ap (ended d c) (sym none) ∙ inv)
 
 -- in a list in which every entry has `!`, an entry that names a package closes it
 off_by : (off hit rest more : Bool) (said : Option Bool) → (rest ≡ true → said ≡ cond more (Some false) None) → (off && rest) ≡ true

@@ -1,5 +1,5 @@
 -- Cutting text at marks, and comparing it with case ignored.
-use Rattle.std.proofs.Common.{◌≡◌, ℕ, zero, suc, ◌+◌, ◌<◌, ◌≤◌, Bool, true, false, cond, eqb, List, [], ◌∷◌, length, get_or, take, drop, map, is_some, Some, None, MatchBool, Option, Bor, sym, refl, ap, ◌∙◌, true≢false, arith}
+use Rattle.std.proofs.Common.{◌≡◌, ℕ, zero, suc, ◌+◌, ◌<◌, ◌≤◌, Bool, true, false, cond, eqb, List, [], ◌∷◌, length, get_or, take, drop, map, Some, None, MatchBool, Option, Bor, sym, refl, ap, ◌∙◌, arith}
 use Rattle.std.proofs.lemmas.Bool.{eq-eqb, ne_eqb}
 use Rattle.std.proofs.lemmas.Iterator.{YieldsList}
 use Rattle.std.proofs.lemmas.Iterator.Consumers.{YieldsList-from_first}
@@ -29,18 +29,6 @@ pieces_cut mark (x ∷ xs) = by (eqb x mark) (pieces_cut mark xs)
         → cond t ([] ∷ pieces mark xs) (longer x (pieces mark xs)) ≡ cond t [] (x ∷ up_to mark xs) ∷ others mark (cond t (Some xs) (behind mark xs))
     by true h = refl
     by false h = ap (longer x) h
-
-none_some : (ys : List ℕ) → None ≡ Some ys → ⊥
-none_some ys e = true≢false (sym (ap is_some e))
-
--- what stands behind a mark is shorter
-pub behind_shorter : (mark : ℕ) (xs ys : List ℕ) → behind mark xs ≡ Some ys → length ys < length xs
-behind_shorter mark [] ys e = absurd (none_some ys e)
-behind_shorter mark (x ∷ xs) ys e = by (eqb x mark) (behind_shorter mark xs ys) e
-  where
-    by : (t : Bool) → (behind mark xs ≡ Some ys → length ys < length xs) → cond t (Some xs) (behind mark xs) ≡ Some ys → length ys < length (x ∷ xs)
-    by true h e = let s : xs ≡ ys = cc (e) in let n = ap length s in omega arith
-    by false h e = let l = h e in omega arith
 
 -- the text is cut where its first mark stands
 pub at_mark : (mark : ℕ) (xs : List ℕ) (i : ℕ) → i < length xs → get_or xs i 0 ≡ mark → ((k : ℕ) → k < i → get_or xs k 0 ≡ mark → ⊥)
