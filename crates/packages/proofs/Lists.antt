@@ -17,16 +17,7 @@ ends d flag p es = or_else (says p es) (cond d (flag && all_switch_off es) flag)
 step_by : (d flag off hit rest : Bool) (said : Option Bool)
     → or_else (or_option said (cond hit (Some (not off)) None)) (cond d (flag && (off && rest)) flag)
     ≡ or_else said (cond (d && off) (flag_after d flag off hit && rest) (flag_after d flag off hit))
-step_by d flag off hit rest (Some b) = refl
-step_by true flag true true rest None = refl
-step_by false flag true true rest None = refl
-step_by true flag false true rest None = refl
-step_by false flag false true rest None = refl
-step_by true flag true false rest None = refl
-step_by false flag true false rest None = refl
-step_by true true false false rest None = refl
-step_by true false false false rest None = refl
-step_by false flag false false rest None = refl
+step_by d flag off hit rest said = grind (arith, nat_tests)
 
 pub step : (d flag : Bool) (p e : List ℕ) (es : List (List ℕ)) → ends d flag p (e ∷ es) ≡ ends (d && negative e) (flag_after d flag (negative e) (names p e)) p es
 unfolding says all_switch_off
@@ -54,9 +45,7 @@ walk_start text = refl
 
 kept : (d flag : Bool) (p : List ℕ) → ends d flag p [] ≡ flag
 unfolding says all_switch_off
-kept true true p = refl
-kept true false p = refl
-kept false flag p = refl
+kept d flag p = grind (arith, nat_tests)
 
 pub walk_end : (d : Bool) (c want : PackageListConfig) (left : List (List ℕ)) → left ≡ [] → ended d c left ≡ want → c ≡ want
 walk_end d c want left none inv =
@@ -66,12 +55,7 @@ walk_end d c want left none inv =
 -- in a list in which every entry has `!`, an entry that names a package closes it
 off_by : (off hit rest more : Bool) (said : Option Bool) → (rest ≡ true → said ≡ cond more (Some false) None) → (off && rest) ≡ true
     → or_option said (cond hit (Some (not off)) None) ≡ cond (hit || more) (Some false) None
-off_by false hit rest more said ih e = cc
-off_by true hit false more said ih e = cc
-off_by true true true true said ih e = simp (ih refl)
-off_by true true true false said ih e = simp (ih refl)
-off_by true false true true said ih e = simp (ih refl)
-off_by true false true false said ih e = simp (ih refl)
+off_by off hit rest more said ih e = grind (arith, nat_tests)
 
 says_off : (p : List ℕ) (es : List (List ℕ)) → all_switch_off es ≡ true → says p es ≡ cond (named p es) (Some false) None
 unfolding says all_switch_off named
@@ -79,8 +63,7 @@ says_off p [] h = refl
 says_off p (e ∷ es) h = off_by (negative e) (names p e) (all_switch_off es) (named p es) (says p es) (says_off p es) h
 
 not_by : (b : Bool) → or_else (cond b (Some false) None) true ≡ not b
-not_by true = refl
-not_by false = refl
+not_by b = grind (arith, nat_tests)
 
 pub closing : (p : List ℕ) (es : List (List ℕ)) → all_switch_off es ≡ true → opens p es ≡ not (named p es)
 closing p es h = simp (says_off p es h, h) (not_by (named p es))
@@ -91,10 +74,7 @@ each_closing text h = cc (closing ntlm_name (entries text) h, closing kerberos_n
 
 -- a list of one entry without `!` opens just what it names
 single_by : (hit off : Bool) → off ≡ false → or_else (or_option None (cond hit (Some (not off)) None)) (off && true) ≡ hit
-single_by true true e = sym e
-single_by false true e = e
-single_by true false e = refl
-single_by false false e = refl
+single_by hit off e = grind (arith, nat_tests)
 
 only_one : (p e : List ℕ) → negative e ≡ false → opens p (e ∷ []) ≡ same_ignoring_case e p
 unfolding says all_switch_off

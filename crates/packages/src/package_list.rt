@@ -69,6 +69,7 @@ impl PackageListConfig {
     }
 
     // The packages after one more entry; the first without `!` closes all before it opens its own.
+    // Each flag is written once, beside the name of its package.
     fn switched(self, name: &[u8], off: bool, use_default: bool) -> PackageListConfig
         ensures { result ≡ after use_default self off name.now }
     {

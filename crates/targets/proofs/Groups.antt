@@ -1,10 +1,11 @@
 -- How many groups a text is, from how many pieces it has and from the last of them.
-use Rattle.std.proofs.Common.{◌≡◌, ℕ, suc, ◌+◌, ◌-◌, ◌≤◌, Bool, true, false, cond, ◌&&◌, eqb, List, [], ◌∷◌, length, take, Some, None, Option, sym, refl, true≢false, ap, ◌∙◌, arith}
+use Rattle.std.proofs.Common.{◌≡◌, ℕ, suc, ◌+◌, ◌-◌, ◌≤◌, Bool, false, cond, ◌&&◌, eqb, List, [], ◌∷◌, length, take, Some, None, Option, sym, refl, true≢false, ap, ◌∙◌, arith}
 use Rattle.std.specs.Bool.{then_some}
 use Rattle.std.specs.List.{list_all}
 use Rattle.std.specs.Option.{option_map}
 use Rattle.text.specs.Pieces.{pieces, last_of, after_last}
 use Rattle.text.proofs.Cuts.{pieces_cut}
+use Rattle.std.proofs.lemmas.Bool.Decides.{nat_tests}
 use Rattle.targets.specs.Addresses.{hex_group, last_group, groups_in, groups}
 
 -- n groups and those of the last piece, where all before it are groups
@@ -12,15 +13,11 @@ abbrev with_last : ℕ → Bool → Option ℕ → Option ℕ
 with_last n before last = cond before (option_map (λ m. n + m) last) None
 
 none_more : (v : Option ℕ) → v ≡ option_map (λ m. 0 + m) v
-none_more None = refl
-none_more (Some m) = ap Some (omega arith)
+none_more v = grind (arith, nat_tests)
 
 one_more : (first before : Bool) (n : ℕ) (v : Option ℕ)
     → cond first (option_map (λ m. 1 + m) (cond before (option_map (λ m. n + m) v) None)) None ≡ cond (first && before) (option_map (λ m. suc n + m) v) None
-one_more false before n v = refl
-one_more true false n v = refl
-one_more true true n None = refl
-one_more true true n (Some m) = ap Some (omega arith)
+one_more first before n v = grind (arith, nat_tests)
 
 groups_by : (dotted : Bool) (p : List ℕ) (ps : List (List ℕ)) → groups_in dotted (p ∷ ps) ≡ with_last (length ps) (list_all hex_group (take (length ps) (p ∷ ps))) (last_group dotted (last_of (p ∷ ps)))
 groups_by dotted p [] = none_more (last_group dotted p)
@@ -44,12 +41,10 @@ split dotted [] n l e = absurd (true≢false (sym l))
 split dotted (x ∷ xs) n l e = sym (of_pieces dotted (pieces 0x3A (x ∷ xs)) (n - 1) (some_piece 0x3A (x ∷ xs)) (ap (λ m. m - 1) e))
 
 none_last : (n : ℕ) (before : Bool) → None ≡ with_last n before None
-none_last n true = refl
-none_last n false = refl
+none_last n before = grind (arith, nat_tests)
 
 some_last : (n : ℕ) (before : Bool) (m : ℕ) → then_some before (n + m) ≡ with_last n before (Some m)
-some_last n true m = refl
-some_last n false m = refl
+some_last n before m = grind (arith, nat_tests)
 
 -- the last piece is no group
 pub groups_none : (dotted : Bool) (text : List ℕ) → false ≡ eqb (length text) 0 → last_group dotted (after_last 0x3A text) ≡ None → None ≡ groups dotted text

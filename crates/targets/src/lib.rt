@@ -82,6 +82,7 @@ fn is_at_most_seven(m: Option<usize>, n: Option<usize>) -> bool
 }
 
 // Whether the text is eight groups, or at most seven around two colons in a row.
+#[tactic(auto, unfolding(crate::specs::Addresses::ipv6))]
 fn is_ipv6(text: &[u8]) -> bool
     ensures { result ≡ ipv6 text.now }
 {
@@ -95,6 +96,7 @@ fn is_ipv6(text: &[u8]) -> bool
 }
 
 // Whether what stands behind the target's last slash is an IPv4 or an IPv6 address.
+#[tactic(auto, unfolding(crate::specs::Addresses::target_is_address))]
 pub fn is_target_name_ip_address(target: &[u8]) -> bool
     ensures { result ≡ target_is_address target.now }
 {

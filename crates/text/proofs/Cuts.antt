@@ -1,23 +1,13 @@
--- Cutting text at marks, and comparing it with case ignored.
-use Rattle.std.proofs.Common.{◌≡◌, ℕ, zero, suc, ◌+◌, ◌<◌, ◌≤◌, Bool, true, false, cond, eqb, List, [], ◌∷◌, length, get_or, take, drop, map, Some, None, MatchBool, Option, Bor, sym, refl, ap, ◌∙◌, arith}
+-- Cutting text at marks.
+use Rattle.std.proofs.Common.{◌≡◌, ℕ, zero, suc, ◌+◌, ◌<◌, ◌≤◌, Bool, true, false, cond, eqb, List, [], ◌∷◌, length, get_or, take, drop, map, Some, None, Option, Bor, sym, refl, ap, ◌∙◌, arith}
 use Rattle.std.proofs.lemmas.Bool.{eq-eqb, ne_eqb}
 use Rattle.std.proofs.lemmas.Iterator.{YieldsList}
 use Rattle.std.proofs.lemmas.Iterator.Consumers.{YieldsList-from_first}
 use Rattle.std.specs.Iterator.{YieldsFirstRef}
 use Rattle.std.specs.List.{last_or}
 use Rattle.std.specs.Option.{unwrap_or}
-use Rattle.std.specs.Str.{bytes_eq}
-use Rattle.std.proofs.lemmas.Slice.Eq.{bytes_eq-Decides}
 use Rattle.text.specs.Pieces.{longer, pieces, up_to, behind, others, last_of, after_last, pieces_left}
 use Rattle.text.specs.declared.walk.Pieces.{Pieces}
-
-pub same_when : (xs ys : List ℕ) (r : Bool) → MatchBool r (xs ≡ ys) (xs ≡ ys → ⊥) → r ≡ bytes_eq xs ys
-same_when xs ys true e = sym ((bytes_eq-Decides xs ys).1 e)
-same_when xs ys false n = by (bytes_eq xs ys) refl
-  where
-    by : (t : Bool) → bytes_eq xs ys ≡ t → false ≡ t
-    by true e = absurd (n ((bytes_eq-Decides xs ys).0 e))
-    by false e = refl
 
 -- the pieces are the text up to the first mark and the pieces of what stands behind it
 pub pieces_cut : (mark : ℕ) (xs : List ℕ) → pieces mark xs ≡ up_to mark xs ∷ others mark (behind mark xs)
@@ -49,14 +39,8 @@ no_mark mark (x ∷ xs) n =
     let r = no_mark mark xs (λ k b. n (suc k) (omega arith)) in
     simp h (ap (λ v. x ∷ v) r.0, r.1)
 
--- what split_once owes, from where the first mark stands
-pub record Cut (mark : ℕ) (xs front : List ℕ) (back : Option (List ℕ)) : Type 0 where
-  pub first : front ≡ up_to mark xs
-  pub second : back ≡ behind mark xs
-  pub walks : pieces mark xs ≡ front ∷ others mark back
-
-pub cut : (mark : ℕ) (xs front : List ℕ) (back : Option (List ℕ)) → front ≡ up_to mark xs → back ≡ behind mark xs → Cut mark xs front back
-cut mark xs front back f b = record { first = f; second = b; walks = pieces_cut mark xs ∙ (ap (λ v. v ∷ others mark (behind mark xs)) (sym f) ∙ ap (λ v. front ∷ others mark v) (sym b)) }
+pub cut : (mark : ℕ) (xs : List ℕ) {front : List ℕ} {back : Option (List ℕ)} → front ≡ up_to mark xs → back ≡ behind mark xs → pieces mark xs ≡ front ∷ others mark back
+cut mark xs {front} f b = pieces_cut mark xs ∙ (ap (λ v. v ∷ others mark (behind mark xs)) (sym f) ∙ ap (λ v. front ∷ others mark v) (sym b))
 
 -- what the last of some references reads
 last_read : (x d : Bor (List ℕ)) (xs : List (Bor (List ℕ))) → (unwrap_or (last_or (Some x) xs) d).now ≡ last_of (map (λ y. y.now) (x ∷ xs))

@@ -39,6 +39,7 @@ pub fn after_last(text: &[u8], mark: u8) -> &[u8]
 }
 
 // Whether two texts are equal when ASCII case is ignored.
+#[tactic(auto, unfolding(crate::specs::Cases::same_ignoring_case))]
 pub fn eq_ignore_ascii_case(a: &[u8], b: &[u8]) -> bool
     ensures { result ≡ same_ignoring_case a.now b.now }
 {

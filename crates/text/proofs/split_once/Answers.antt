@@ -1,4 +1,4 @@
-use Rattle.std.proofs.Common.{◌≡◌, ℕ, ◌<◌, ◌+◌, Some, None, get_or, length, ap, ◌∙◌, arith}
+use Rattle.std.proofs.Common.{◌≡◌, ℕ, ◌<◌, ◌+◌, Some, get_or, length, ap, ◌∙◌, arith}
 use Rattle.std.proofs.lemmas.List.{take_rest}
 use Rattle.std.proofs.lemmas.Grind.{common_steps}
 use Rattle.text.proofs.Cuts.{cut, at_mark, no_mark}
@@ -11,13 +11,12 @@ returns-in-Some c =
     let within : c.in-Some.i < length text = grind (arith, common_steps) in
     let before : (k : ℕ) → k < c.in-Some.i → get_or text k 0 ≡ c.args.mark → ⊥ = grind (arith, common_steps) in
     let p = at_mark c.args.mark text c.in-Some.i within here before in
-    let k = cut c.args.mark text _ (Some _) p.0 (ap Some (take_rest text (c.in-Some.i + 1)) ∙ p.1) in
-    record { first = k.first; second = k.second; walks = k.walks }
+    let back = ap Some (take_rest text (c.in-Some.i + 1)) ∙ p.1 in
+    record { first = p.0; second = back; walks = cut c.args.mark text p.0 back }
 
 pub returns-in-None : goal.returns-in-None
 returns-in-None c =
     let text = c.args.text.now in
     let none : (k : ℕ) → k < length text → get_or text k 0 ≡ c.args.mark → ⊥ = grind (arith, common_steps) in
     let p = no_mark c.args.mark text none in
-    let k = cut c.args.mark text _ None p.0 p.1 in
-    record { first = k.first; second = k.second; walks = k.walks }
+    record { first = p.0; second = p.1; walks = cut c.args.mark text p.0 p.1 }
