@@ -1,10 +1,10 @@
 -- A configuration is a word for the protocol and a list of packages. Its check gives a plan: the protocol that runs, the packages that are open
 -- and the greatest working buffer. It refuses, in this order: an unknown word, a list that leaves nothing open, a server that would run closed NTLM.
-use Rattle.std.specs.Prelude.{ℕ, Bool, true, false, List, Ok, Err, Option, Result}
+use Rattle.std.specs.Prelude.{ℕ, Bool, true, false, ◌&&◌, is_ok, List, Ok, Err, Option, Result}
 use Rattle.config.specs.declared.Draft.{Draft}
 use Rattle.config.specs.declared.Plan.{Plan}
 use Rattle.packages.specs.Filter.{filtered}
-use Rattle.packages.specs.Packages.{parsed}
+use Rattle.packages.specs.Packages.{parsed, any_open}
 use Rattle.packages.specs.Protocols.{protocol_of}
 use Rattle.packages.specs.declared.package_list.PackageListConfig.{PackageListConfig}
 use Rattle.packages.specs.declared.protocol.Protocol.{Protocol}
@@ -36,3 +36,8 @@ serves (Ok Ntlm) o = o.ntlm
 serves (Ok Kerberos) o = true
 serves (Ok Pku2u) o = true
 serves (Err e) o = false
+
+-- whether a party is made: a client if the word is known and something is open, and a server also if it runs what the word names
+abbrev pub makes : Bool → Result Protocol Fault → PackageListConfig → Bool
+makes true r o = is_ok r && any_open o
+makes false r o = any_open o && serves r o

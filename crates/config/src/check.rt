@@ -1,50 +1,37 @@
-ghost use Rattle.std.specs.Prelude.{◌≡◌, true, false, ◌&&◌, is_ok, Ok};
-ghost use Rattle.config.specs.Checks.{checked, drafted, planned, plan_of, serves};
+ghost use Rattle.std.specs.Prelude.{◌≡◌, true, is_ok, Ok};
+ghost use Rattle.config.specs.Checks.{checked, drafted, makes, plan_of};
 ghost use Rattle.config.specs.declared.Plan.{Plan as PlanRecord};
 ghost use Rattle.packages.specs.Packages.{any_open, parsed, seen};
 ghost use Rattle.packages.specs.Protocols.{protocol_of};
 
-use crate::{Client, Draft, MAX_WORK, Plan, Server};
+use crate::{Draft, MAX_WORK, Plan, Role};
 use packages::{PackageListConfig, Protocol, filter_protocol};
 use sspi::Fault;
+use std::marker::PhantomData;
 
-impl Draft<Client> {
-    // Checks the configuration of a client: the word for the protocol, and the list of packages.
-    pub fn check(word: &str, package_list: Option<&[u8]>) -> Result<Draft<Client>, Fault>
-        ensures answer { drafted result ≡ checked true word.now (seen package_list.entry) }
+impl<R: Role> Draft<R> {
+    // Checks a configuration: the word for the protocol, and the list of packages.
+    // Refuses first an unknown word, then a list that leaves nothing open, then a server that would run closed NTLM.
+    #[tactic(auto, unfolding(crate::specs::Checks::checked))]
+    pub fn check(word: &str, package_list: Option<&[u8]>) -> Result<Draft<R>, Fault>
+        ensures answer { drafted result ≡ checked R.IS_CLIENT word.now (seen package_list.entry) }
         ensures as_listed { (p : PlanRecord) → drafted result ≡ Ok p → p.«open» ≡ parsed (seen package_list.entry) }
         ensures some { (p : PlanRecord) → drafted result ≡ Ok p → any_open p.«open» ≡ true }
-        ensures made { is_ok result ≡ (is_ok (protocol_of word.now) && any_open (parsed (seen package_list.entry))) }
+        ensures made { is_ok result ≡ makes R.IS_CLIENT (protocol_of word.now) (parsed (seen package_list.entry)) }
     {
-        check_role(
-            Client,
-            word,
-            PackageListConfig::parse(package_list),
-            MAX_WORK,
-            true,
-        )
+        let open = PackageListConfig::parse(package_list);
+        let configured = word.parse::<Protocol>()?;
+        let running = filter_protocol(configured, open, R::IS_CLIENT)?;
+        Ok(Draft {
+            role: PhantomData,
+            running,
+            open,
+            max_work: MAX_WORK,
+        })
     }
 }
 
-impl Draft<Server> {
-    // Checks the configuration of a server.
-    pub fn check(word: &str, package_list: Option<&[u8]>) -> Result<Draft<Server>, Fault>
-        ensures answer { drafted result ≡ checked false word.now (seen package_list.entry) }
-        ensures as_listed { (p : PlanRecord) → drafted result ≡ Ok p → p.«open» ≡ parsed (seen package_list.entry) }
-        ensures some { (p : PlanRecord) → drafted result ≡ Ok p → any_open p.«open» ≡ true }
-        ensures made { is_ok result ≡ (any_open (parsed (seen package_list.entry)) && serves (protocol_of word.now) (parsed (seen package_list.entry))) }
-    {
-        check_role(
-            Server,
-            word,
-            PackageListConfig::parse(package_list),
-            MAX_WORK,
-            false,
-        )
-    }
-}
-
-impl<R: Drop> Draft<R> {
+impl<R> Draft<R> {
     // Ends the draft.
     pub fn spend(self) -> Plan
         ensures answer { result ≡ plan_of self }
@@ -62,24 +49,4 @@ impl<R: Drop> Draft<R> {
             max_work,
         }
     }
-}
-
-// Refuses first an unknown word, then a list that leaves nothing open, then a server that would run closed NTLM.
-fn check_role<R: Drop>(
-    role: R,
-    word: &str,
-    open: PackageListConfig,
-    max_work: usize,
-    is_client: bool,
-) -> Result<Draft<R>, Fault>
-    ensures { drafted result ≡ planned is_client word.now «open» max_work }
-{
-    let configured = Protocol::from_word(word)?;
-    let running = filter_protocol(configured, open, is_client)?;
-    Ok(Draft {
-        role,
-        running,
-        open,
-        max_work,
-    })
 }

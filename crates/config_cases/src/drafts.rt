@@ -1,25 +1,11 @@
+use crate::refusals::{INTERNAL, NO_CREDENTIALS, UNKNOWN};
 use crate::spending::{client_plan, server_plan};
 use config::Plan;
 use packages::{PackageListConfig, Protocol};
-use sspi::{ErrorKind, Fault, Layer};
+use sspi::Fault;
 use std::process::Abort;
 
 type Planned = Result<Plan, Fault>;
-
-const NO_CREDENTIALS: Fault = Fault {
-    kind: ErrorKind::NoCredentials,
-    layer: Layer::Negotiation,
-};
-
-const INTERNAL: Fault = Fault {
-    kind: ErrorKind::InternalError,
-    layer: Layer::Negotiation,
-};
-
-const UNKNOWN: Fault = Fault {
-    kind: ErrorKind::SecurityPackageNotFound,
-    layer: Layer::Negotiation,
-};
 
 const fn plan(running: Protocol, ntlm: bool, kerberos: bool, pku2u: bool) -> Planned {
     Ok(Plan {

@@ -7,4 +7,6 @@ mod drafts;
 mod lists;
 #[cfg(test)]
 mod protocols;
+#[cfg(test)]
+mod refusals;
 pub mod spending;

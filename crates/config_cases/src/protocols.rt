@@ -1,21 +1,7 @@
+use crate::refusals::{INTERNAL, NO_CREDENTIALS, UNKNOWN};
 use packages::{PackageListConfig, Protocol, filter_protocol};
-use sspi::{ErrorKind, Fault, Layer};
+use sspi::Fault;
 use std::process::Abort;
-
-const NO_CREDENTIALS: Fault = Fault {
-    kind: ErrorKind::NoCredentials,
-    layer: Layer::Negotiation,
-};
-
-const INTERNAL: Fault = Fault {
-    kind: ErrorKind::InternalError,
-    layer: Layer::Negotiation,
-};
-
-const UNKNOWN: Fault = Fault {
-    kind: ErrorKind::SecurityPackageNotFound,
-    layer: Layer::Negotiation,
-};
 
 // Each word gives the protocol beside it, or is unknown.
 #[test]
@@ -37,7 +23,7 @@ fn words(rt: HostRuntime) {
         ("NTLM,Kerberos", Err(UNKNOWN)),
     ];
     for (word, want) in rows {
-        assert_eq!(rt; Protocol::from_word(word), want);
+        assert_eq!(rt; word.parse::<Protocol>(), want);
     }
 }
 

@@ -13,7 +13,7 @@ pub fn client_plan(word: &str, package_list: Option<&[u8]>) -> Result<Plan, Faul
     Ok(draft.spend())
 }
 
-// What a server's configuration comes to.
+// What a server's configuration comes to. Unlike a client's draft, this one goes through a function that takes no other.
 pub fn server_plan(word: &str, package_list: Option<&[u8]>) -> Result<Plan, Fault>
     ensures { result ≡ checked false word.now (seen package_list.entry) }
 {

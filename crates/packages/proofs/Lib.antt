@@ -1,2 +1,1 @@
-pub mod Filters
 pub mod Lists

@@ -1,26 +1,14 @@
 -- What a package list says, entry by entry, and its laws.
-use Rattle.std.proofs.Common.{◌≡◌, ℕ, ◌-◌, ◌<◌, Bool, true, false, cond, not, ◌&&◌, ◌||◌, eqb, List, [], ◌∷◌, map, length, get_or, take, drop, Some, None, Option, sym, refl, ap, ◌∙◌, arith, lit<, Bor}
+use Rattle.std.proofs.Common.{◌≡◌, ℕ, ◌<◌, Bool, true, false, cond, not, ◌&&◌, ◌||◌, eqb, List, [], ◌∷◌, map, drop, Some, None, Option, sym, refl, ap, ◌∙◌, arith, lit<}
 use Rattle.packages.specs.Packages.{negative, positive, name_of, names, or_else, or_option, says, all_switch_off, named, opens, entries, each, parsed, ntlm_name, kerberos_name, pku2u_name}
 use Rattle.packages.specs.Walk.{flag_after, after}
 use Rattle.packages.specs.declared.package_list.PackageListConfig.{PackageListConfig}
-use Rattle.std.proofs.lemmas.List.{take_rest}
-use Rattle.std.proofs.lemmas.Bool.{eq-eqb, ne_eqb, cond-true, cond-false, eqb-true}
+use Rattle.std.proofs.lemmas.Bool.{cond-false}
 use Rattle.std.proofs.lemmas.Bool.Decides.{nat_tests}
 use Rattle.std.specs.Char.{to_ascii_lowercase}
 use Rattle.std.specs.Str.{bytes_eq}
 use Rattle.text.specs.Cases.{small, same_ignoring_case}
-use Rattle.text.specs.Pieces.{pieces, longer, others, seen}
-
--- an entry with `!`, and an empty one
-pub sign_on : (e : List ℕ) → get_or e 0 0 ≡ 0x21 → (true ≡ negative e) × (take (length e - 1) (drop 1 e) ≡ name_of e)
-sign_on e h = let n : negative e ≡ true = eq-eqb (get_or e 0 0) 0x21 h in (sym n, take_rest e 1 ∙ sym (cond-true (negative e) (drop 1 e) e n))
-
-pub sign_off : (e : List ℕ) → (get_or e 0 0 ≡ 0x21 → ⊥) → (false ≡ negative e) × (e ≡ name_of e)
-sign_off e h = let n : negative e ≡ false = ne_eqb (get_or e 0 0) 0x21 h in (sym n, sym (cond-false (negative e) (drop 1 e) e n))
-
-pub sign_empty : (e : List ℕ) (r : Bool) → r ≡ eqb (length e) 0 → r ≡ true → (false ≡ negative e) × (e ≡ name_of e)
-sign_empty [] r is t = (refl, refl)
-sign_empty (x ∷ xs) r is t = let l : length (x ∷ xs) ≡ 0 = eqb-true (length (x ∷ xs)) 0 (sym is ∙ t) in absurd (omega arith)
+use Rattle.text.specs.Pieces.{pieces, longer}
 
 -- how a flag ends: d says that every entry so far had `!`, and es are the entries to come
 abbrev pub ends : Bool → Bool → List ℕ → List (List ℕ) → Bool
@@ -29,16 +17,7 @@ ends d flag p es = or_else (says p es) (cond d (flag && all_switch_off es) flag)
 step_by : (d flag off hit rest : Bool) (said : Option Bool)
     → or_else (or_option said (cond hit (Some (not off)) None)) (cond d (flag && (off && rest)) flag)
     ≡ or_else said (cond (d && off) (flag_after d flag off hit && rest) (flag_after d flag off hit))
-step_by d flag off hit rest (Some b) = refl
-step_by true flag true true rest None = refl
-step_by false flag true true rest None = refl
-step_by true flag false true rest None = refl
-step_by false flag false true rest None = refl
-step_by true flag true false rest None = refl
-step_by false flag true false rest None = refl
-step_by true true false false rest None = refl
-step_by true false false false rest None = refl
-step_by false flag false false rest None = refl
+step_by d flag off hit rest said = grind (arith, nat_tests)
 
 pub step : (d flag : Bool) (p e : List ℕ) (es : List (List ℕ)) → ends d flag p (e ∷ es) ≡ ends (d && negative e) (flag_after d flag (negative e) (names p e)) p es
 unfolding says all_switch_off
@@ -51,43 +30,32 @@ ended d c es = record { ntlm = ends d c.ntlm ntlm_name es; kerberos = ends d c.k
 pub walk_step : (d : Bool) (c : PackageListConfig) (e : List ℕ) (es : List (List ℕ)) → ended d c (e ∷ es) ≡ ended (d && negative e) (after d c (negative e) (name_of e)) es
 walk_step d c e es = cc (step d c.ntlm ntlm_name e es, step d c.kerberos kerberos_name e es, step d c.pku2u pku2u_name e es)
 
--- one turn of the walk, and its end
-pub walk_again : (d next off : Bool) (c then want : PackageListConfig) (name e : List ℕ) (was : Option (Bor (List ℕ))) (ref : Bor (List ℕ)) (rest : Option (List ℕ))
-    → was ≡ Some ref → pieces 0x2C ref.now ≡ e ∷ others 0x2C rest → off ≡ negative e → name ≡ name_of e → then ≡ after d c off name → next ≡ (d && off)
-    → ended d c (others 0x2C (seen was)) ≡ want → ended next then (others 0x2C rest) ≡ want
-walk_again d next off c then want name e was ref rest option_is_some cut sign named changed more inv =
-    let at : ended d c (pieces 0x2C ref.now) ≡ want = ap (λ (v : Option (Bor (List ℕ))). ended d c (others 0x2C (seen v))) (sym option_is_some) ∙ inv in
-    let es : List (List ℕ) = others 0x2C rest in
-    ap (λ v. ended v then es) more
-    ∙ (ap (λ (v : PackageListConfig). ended (d && off) v es) (changed ∙ ap (after d c off) named)
+-- one turn of the walk over the entries, its start and its end
+pub walk_again : (d off : Bool) (c then want : PackageListConfig) (name e : List ℕ) (es left : List (List ℕ))
+    → left ≡ e ∷ es → off ≡ negative e → name ≡ name_of e → then ≡ after d c off name
+    → ended d c left ≡ want → ended (d && off) then es ≡ want
+walk_again d off c then want name e es left more sign named changed inv =
+    ap (λ (v : PackageListConfig). ended (d && off) v es) (changed ∙ ap (after d c off) named)
     ∙ (ap (λ v. ended (d && v) (after d c v (name_of e)) es) sign
-    ∙ (sym (walk_step d c e es) ∙ (ap (ended d c) (sym cut) ∙ at))))
+    ∙ (sym (walk_step d c e es) ∙ (ap (ended d c) (sym more) ∙ inv)))
 
-pub walk_start : (list : Option (List ℕ)) → ended true (each (λ _. true)) (others 0x2C list) ≡ parsed list
+pub walk_start : (text : List ℕ) → ended true (each (λ _. true)) (pieces 0x2C text) ≡ parsed (Some text)
 unfolding parsed says all_switch_off
-walk_start None = refl
-walk_start (Some text) = refl
+walk_start text = refl
 
 kept : (d flag : Bool) (p : List ℕ) → ends d flag p [] ≡ flag
 unfolding says all_switch_off
-kept true true p = refl
-kept true false p = refl
-kept false flag p = refl
+kept d flag p = grind (arith, nat_tests)
 
-pub walk_end : (d : Bool) (c want : PackageListConfig) (was : Option (Bor (List ℕ))) → was ≡ None → ended d c (others 0x2C (seen was)) ≡ want → c ≡ want
-walk_end d c want was none inv =
+pub walk_end : (d : Bool) (c want : PackageListConfig) (left : List (List ℕ)) → left ≡ [] → ended d c left ≡ want → c ≡ want
+walk_end d c want left none inv =
     let all : ended d c [] ≡ record { ntlm = c.ntlm; kerberos = c.kerberos; pku2u = c.pku2u } = cc (kept d c.ntlm ntlm_name, kept d c.kerberos kerberos_name, kept d c.pku2u pku2u_name) in
-    sym all ∙ (ap (λ (v : Option (Bor (List ℕ))). ended d c (others 0x2C (seen v))) (sym none) ∙ inv)
+    sym all ∙ (ap (ended d c) (sym none) ∙ inv)
 
 -- in a list in which every entry has `!`, an entry that names a package closes it
 off_by : (off hit rest more : Bool) (said : Option Bool) → (rest ≡ true → said ≡ cond more (Some false) None) → (off && rest) ≡ true
     → or_option said (cond hit (Some (not off)) None) ≡ cond (hit || more) (Some false) None
-off_by false hit rest more said ih e = cc
-off_by true hit false more said ih e = cc
-off_by true true true true said ih e = simp (ih refl)
-off_by true true true false said ih e = simp (ih refl)
-off_by true false true true said ih e = simp (ih refl)
-off_by true false true false said ih e = simp (ih refl)
+off_by off hit rest more said ih e = grind (arith, nat_tests)
 
 says_off : (p : List ℕ) (es : List (List ℕ)) → all_switch_off es ≡ true → says p es ≡ cond (named p es) (Some false) None
 unfolding says all_switch_off named
@@ -95,8 +63,7 @@ says_off p [] h = refl
 says_off p (e ∷ es) h = off_by (negative e) (names p e) (all_switch_off es) (named p es) (says p es) (says_off p es) h
 
 not_by : (b : Bool) → or_else (cond b (Some false) None) true ≡ not b
-not_by true = refl
-not_by false = refl
+not_by b = grind (arith, nat_tests)
 
 pub closing : (p : List ℕ) (es : List (List ℕ)) → all_switch_off es ≡ true → opens p es ≡ not (named p es)
 closing p es h = simp (says_off p es h, h) (not_by (named p es))
@@ -107,10 +74,7 @@ each_closing text h = cc (closing ntlm_name (entries text) h, closing kerberos_n
 
 -- a list of one entry without `!` opens just what it names
 single_by : (hit off : Bool) → off ≡ false → or_else (or_option None (cond hit (Some (not off)) None)) (off && true) ≡ hit
-single_by true true e = sym e
-single_by false true e = e
-single_by true false e = refl
-single_by false false e = refl
+single_by hit off e = grind (arith, nat_tests)
 
 only_one : (p e : List ℕ) → negative e ≡ false → opens p (e ∷ []) ≡ same_ignoring_case e p
 unfolding says all_switch_off

@@ -6,10 +6,12 @@ ghost use Rattle.packages.specs.declared.protocol.Protocol.TheVariants.{Ntlm};
 ghost use Rattle.sspi.specs.declared.error_kind.ErrorKind.TheVariants.{NoCredentials, InternalError};
 
 use crate::package_list::PackageListConfig;
-use crate::protocol::{Protocol, refusal};
-use sspi::{ErrorKind, Fault};
+use crate::protocol::Protocol;
+use sspi::{ErrorKind, Fault, Layer};
 
 // The protocol that runs from now on, once it is known which packages are open.
+// An open protocol goes on running. A closed one gives way to NTLM, and closed NTLM, for a client, to Kerberos.
+#[tactic(auto, unfolding(crate::specs::Filter::filtered))]
 pub fn filter_protocol(
     running: Protocol,
     open: PackageListConfig,
@@ -21,19 +23,8 @@ pub fn filter_protocol(
     ensures only_closed { result ≡ Err (refused NoCredentials) → any_open «open» ≡ false }
     ensures stuck { result ≡ Err (refused InternalError) → (running ≡ Ntlm) × («open».ntlm ≡ false) × (is_client ≡ false) × (any_open «open» ≡ true) }
 {
-    protocol_left(running, open, is_client)
-}
-
-// An open protocol goes on running. A closed one gives way to NTLM, and closed NTLM, for a client, to Kerberos.
-fn protocol_left(
-    running: Protocol,
-    open: PackageListConfig,
-    is_client: bool,
-) -> Result<Protocol, Fault>
-    ensures { result ≡ filtered running «open» is_client }
-{
     if !open.any() {
-        return Err(refusal(ErrorKind::NoCredentials));
+        return Err(Layer::Negotiation.fault(ErrorKind::NoCredentials));
     }
     if open.is_open(running) {
         return Ok(running);
@@ -41,6 +32,6 @@ fn protocol_left(
     match running {
         Protocol::Kerberos | Protocol::Pku2u => Ok(Protocol::Ntlm),
         Protocol::Ntlm if is_client => Ok(Protocol::Kerberos),
-        Protocol::Ntlm => Err(refusal(ErrorKind::InternalError)),
+        Protocol::Ntlm => Err(Layer::Negotiation.fault(ErrorKind::InternalError)),
     }
 }

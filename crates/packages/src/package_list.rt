@@ -6,7 +6,7 @@ ghost use Rattle.text.specs.Cases.{same_ignoring_case, small};
 ghost use Rattle.text.specs.Pieces.{seen};
 
 use crate::protocol::Protocol;
-use text::{eq_ignore_ascii_case, split_once};
+use text::{eq_ignore_ascii_case, pieces};
 
 // Which packages are open.
 #[derive(Clone, Copy, PartialEq, Eq, Debug)]
@@ -30,13 +30,24 @@ const NONE: PackageListConfig = PackageListConfig {
 
 impl PackageListConfig {
     // The packages that a list leaves open. Entries stand between commas; one that begins with `!` switches its package off.
+    // `use_default` says that every entry so far had `!`.
     pub fn parse(package_list: Option<&[u8]>) -> PackageListConfig
         ensures answer { result ≡ parsed (seen package_list.entry) }
         ensures any_case { (a b : List ℕ) → seen package_list.entry ≡ Some a → small a ≡ small b → result ≡ parsed (Some b) }
         ensures closing { (a : List ℕ) → seen package_list.entry ≡ Some a → all_switch_off (entries a) ≡ true → result ≡ each (λ p. not (named p (entries a))) }
         ensures single { (a : List ℕ) → seen package_list.entry ≡ Some a → entries a ≡ a ∷ [] → negative a ≡ false → result ≡ each (λ p. same_ignoring_case a p) }
     {
-        walked(package_list)
+        let Some(list) = package_list else {
+            return ALL;
+        };
+        let mut config = ALL;
+        let mut use_default = true;
+        for entry in pieces(list, b',') {
+            let (off, name) = split_sign(entry);
+            config = config.switched(name, off, use_default);
+            use_default &= off;
+        }
+        config
     }
 
     // Whether one package is open.
@@ -58,6 +69,7 @@ impl PackageListConfig {
     }
 
     // The packages after one more entry; the first without `!` closes all before it opens its own.
+    // Each flag is written once, beside the name of its package.
     fn switched(self, name: &[u8], off: bool, use_default: bool) -> PackageListConfig
         ensures { result ≡ after use_default self off name.now }
     {
@@ -86,26 +98,8 @@ fn split_sign(entry: &[u8]) -> (bool, &[u8])
     ensures sign { result.0 ≡ negative entry.now }
     ensures name { result.1.now ≡ name_of entry.now }
 {
-    if !entry.is_empty() && entry[0] == b'!' {
-        (true, &entry[1..])
-    } else {
-        (false, entry)
+    match entry {
+        [b'!', name @ ..] => (true, name),
+        _ => (false, entry),
     }
-}
-
-// Walks over the entries; `use_default` says that every one so far had `!`.
-fn walked(package_list: Option<&[u8]>) -> PackageListConfig
-    ensures { result ≡ parsed (seen package_list.entry) }
-{
-    let mut config = ALL;
-    let mut use_default = true;
-    let mut rest = package_list;
-    while let Some(text) = rest {
-        let (entry, behind) = split_once(text, b',');
-        let (off, name) = split_sign(entry);
-        config = config.switched(name, off, use_default);
-        use_default = use_default && off;
-        rest = behind;
-    }
-    config
 }

@@ -1,7 +1,8 @@
 ghost use Rattle.std.specs.Prelude.{◌≡◌};
-ghost use Rattle.packages.specs.Protocols.{protocol_of, refused};
+ghost use Rattle.packages.specs.Protocols.{protocol_of};
 
 use sspi::{ErrorKind, Fault, Layer};
+use std::str::FromStr;
 
 // The protocol that runs: one of three mechanisms.
 #[derive(Clone, Copy, PartialEq, Eq, Debug)]
@@ -11,26 +12,19 @@ pub enum Protocol {
     Pku2u,
 }
 
-// A refusal of the negotiation.
-pub(crate) fn refusal(kind: ErrorKind) -> Fault
-    ensures { result ≡ refused kind }
-{
-    Fault {
-        kind,
-        layer: Layer::Negotiation,
-    }
-}
+// The protocol that a word of the configuration names, letter by letter.
+impl FromStr for Protocol {
+    type Err = Fault;
 
-impl Protocol {
-    // The protocol that a word of the configuration names, letter by letter.
-    pub fn from_word(word: &str) -> Result<Protocol, Fault>
-        ensures { result ≡ protocol_of word.now }
-    {
+    ghost from_str_gives = { λ word r. r ≡ protocol_of word };
+
+    #[tactic(auto, unfolding(crate::specs::Protocols::protocol_of))]
+    fn from_str(word: &str) -> Result<Protocol, Fault> {
         match word {
             "Kerberos" => Ok(Protocol::Kerberos),
             "NTLM" => Ok(Protocol::Ntlm),
             "PKU2U" => Ok(Protocol::Pku2u),
-            _ => Err(refusal(ErrorKind::SecurityPackageNotFound)),
+            _ => Err(Layer::Negotiation.fault(ErrorKind::SecurityPackageNotFound)),
         }
     }
 }

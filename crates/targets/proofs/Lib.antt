@@ -1,4 +1,3 @@
-pub mod Digits
 pub mod Doubles
-pub mod Walks
+pub mod Groups
 pub mod Worked

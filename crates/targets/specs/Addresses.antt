@@ -4,6 +4,7 @@ use Rattle.std.specs.Prelude.{ℕ, ◌+◌, ◌-◌, ◌*◌, Bool, true, false,
 use Rattle.std.specs.Borrow.{Bor}
 use Rattle.std.specs.Int.{is_in_range}
 use Rattle.std.specs.Char.{is_ascii_digit, is_ascii_hexdigit}
+use Rattle.std.specs.List.{list_all}
 use Rattle.std.specs.Option.{option_map}
 use Rattle.text.specs.Pieces.{pieces, after_last}
 
@@ -27,16 +28,14 @@ decimal255 (a ∷ b ∷ c ∷ []) = three_digits a b c
 decimal255 (a ∷ b ∷ c ∷ d ∷ ds) = false
 
 abbrev pub numbers : List (List ℕ) → Bool
-numbers [] = true
-numbers (p ∷ ps) = decimal255 p && numbers ps
+numbers ps = list_all decimal255 ps
 
 -- four numbers, with a dot between each and the next
 unfoldable pub ipv4 : List ℕ → Bool
 ipv4 s = length (pieces 0x2E s) == 4 && numbers (pieces 0x2E s)
 
 abbrev pub all_hex : List ℕ → Bool
-all_hex [] = true
-all_hex (x ∷ xs) = is_ascii_hexdigit x && all_hex xs
+all_hex xs = list_all is_ascii_hexdigit xs
 
 -- one to four hexadecimal digits
 unfoldable pub hex_group : List ℕ → Bool

@@ -1,87 +1,38 @@
 #![tactic(auto)]
 
 ghost use Rattle.std.specs.Prelude.{◌≡◌};
-ghost use Rattle.targets.specs.Addresses.{leading, two_digits, three_digits, decimal255, ipv4, all_hex, hex_group, last_group, groups, cut_double, seen_pair, eight, at_most_seven, ipv6, target_is_address};
+ghost use Rattle.targets.specs.Addresses.{decimal255, ipv4, hex_group, last_group, groups, cut_double, seen_pair, at_most_seven, ipv6, target_is_address};
 
-use text::{after_last, split_once};
-
-// Whether the byte is a digit from 1 to 9.
-fn is_leading(c: u8) -> bool
-    ensures { result ≡ leading c }
-{
-    b'1' <= c && c <= b'9'
-}
-
-// Whether the bytes are a number of two digits.
-fn is_two_digits(a: u8, b: u8) -> bool
-    ensures { result ≡ two_digits a b }
-{
-    is_leading(a) && b.is_ascii_digit()
-}
-
-// Whether the bytes are a number of three digits, at most 255.
-fn is_three_digits(a: u8, b: u8, c: u8) -> bool
-    ensures { result ≡ three_digits a b c }
-{
-    if !is_leading(a) || !b.is_ascii_digit() || !c.is_ascii_digit() {
-        return false;
-    }
-    (a - b'0') as u16 * 100 + (b - b'0') as u16 * 10 + (c - b'0') as u16 <= 255
-}
+use text::{after_last, pieces};
 
 // Whether the text is a number from 0 to 255, with no zero in front.
+#[tactic(auto, unfolding(crate::specs::Addresses::decimal255))]
 fn is_decimal(text: &[u8]) -> bool
     ensures { result ≡ decimal255 text.now }
 {
-    match text {
-        [] => false,
-        [a] => a.is_ascii_digit(),
-        [a, b] => is_two_digits(*a, *b),
-        [a, b, c] => is_three_digits(*a, *b, *c),
-        _ => false,
-    }
+    matches!(
+        text,
+        [b'0'..=b'9']
+            | [b'1'..=b'9', b'0'..=b'9']
+            | [b'1', b'0'..=b'9', b'0'..=b'9']
+            | [b'2', b'0'..=b'4', b'0'..=b'9']
+            | [b'2', b'5', b'0'..=b'5']
+    )
 }
 
 // Whether the text is four such numbers, with a dot between each and the next.
 fn is_ipv4(text: &[u8]) -> bool
     ensures { result ≡ ipv4 text.now }
 {
-    let mut tail = text;
-    let mut n: usize = 0;
-    loop {
-        match split_once(tail, b'.') {
-            (number, Some(rest)) => {
-                if !is_decimal(number) {
-                    return false;
-                }
-                n += 1;
-                tail = rest;
-            }
-            (last, None) => return n == 3 && is_decimal(last),
-        }
-    }
-}
-
-// Whether each byte of the text is a hexadecimal digit.
-fn all_hex(text: &[u8]) -> bool
-    ensures { result ≡ all_hex text.now }
-{
-    for x in text {
-        if !x.is_ascii_hexdigit() {
-            return false;
-        }
-    }
-    true
+    pieces(text, b'.').count() == 4 && pieces(text, b'.').all(is_decimal)
 }
 
 // Whether the text is one to four hexadecimal digits.
+#[tactic(auto, unfolding(crate::specs::Addresses::hex_group))]
 fn is_hex_group(text: &[u8]) -> bool
     ensures { result ≡ hex_group text.now }
 {
-    if text.is_empty() || text.len() > 4 {
-        return false;
-    }
-    all_hex(text)
+    matches!(text.len(), 1..=4) && text.iter().all(u8::is_ascii_hexdigit)
 }
 
 // How many groups the last piece counts: one, or two for an IPv4 address where that is allowed.
@@ -89,12 +40,12 @@ fn last_group(last: &[u8], dotted: bool) -> Option<usize>
     ensures { result ≡ last_group dotted last.now }
 {
     if is_hex_group(last) {
-        return Some(1);
+        Some(1)
+    } else if dotted && is_ipv4(last) {
+        Some(2)
+    } else {
+        None
     }
-    if dotted && is_ipv4(last) {
-        return Some(2);
-    }
-    None
 }
 
 // How many groups the text is, with a colon between each and the next; where `dotted`, the last may be an IPv4 address.
@@ -104,42 +55,20 @@ fn count_groups(text: &[u8], dotted: bool) -> Option<usize>
     if text.is_empty() {
         return Some(0);
     }
-    let mut tail = text;
-    let mut n: usize = 0;
-    loop {
-        match split_once(tail, b':') {
-            (group, Some(rest)) => {
-                if !is_hex_group(group) {
-                    return None;
-                }
-                n += 1;
-                tail = rest;
-            }
-            (last, None) => return Some(n + last_group(last, dotted)?),
-        }
-    }
+    let last = last_group(after_last(text, b':'), dotted)?;
+    let before_last = pieces(text, b':').count() - 1;
+    pieces(text, b':')
+        .take(before_last)
+        .all(is_hex_group)
+        .then_some(before_last + last)
 }
 
 // The text before the first two colons in a row, and the text behind them.
 fn split_double(text: &[u8]) -> Option<(&[u8], &[u8])>
     ensures { seen_pair result ≡ cut_double text.now }
 {
-    for i in 1..text.len() {
-        if text[i - 1] == b':' && text[i] == b':' {
-            return Some((&text[..i - 1], &text[i + 1..]));
-        }
-    }
-    None
-}
-
-// Whether there are eight groups.
-fn is_eight(n: Option<usize>) -> bool
-    ensures { result ≡ eight n }
-{
-    match n {
-        None => false,
-        Some(n) => n == 8,
-    }
+    let i = text.array_windows().position(|pair| pair == b"::")?;
+    Some((&text[..i], &text[i + 2..]))
 }
 
 // Whether there are groups on both sides, at most seven together.
@@ -153,11 +82,12 @@ fn is_at_most_seven(m: Option<usize>, n: Option<usize>) -> bool
 }
 
 // Whether the text is eight groups, or at most seven around two colons in a row.
+#[tactic(auto, unfolding(crate::specs::Addresses::ipv6))]
 fn is_ipv6(text: &[u8]) -> bool
     ensures { result ≡ ipv6 text.now }
 {
     match split_double(text) {
-        None => is_eight(count_groups(text, true)),
+        None => count_groups(text, true) == Some(8),
         Some((front, back)) => is_at_most_seven(
             count_groups(front, false),
             count_groups(back, true),
@@ -166,6 +96,7 @@ fn is_ipv6(text: &[u8]) -> bool
 }
 
 // Whether what stands behind the target's last slash is an IPv4 or an IPv6 address.
+#[tactic(auto, unfolding(crate::specs::Addresses::target_is_address))]
 pub fn is_target_name_ip_address(target: &[u8]) -> bool
     ensures { result ≡ target_is_address target.now }
 {

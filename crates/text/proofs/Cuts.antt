@@ -1,18 +1,13 @@
--- Cutting text at marks, and comparing it with case ignored.
-use Rattle.std.proofs.Common.{◌≡◌, ℕ, ◌+◌, ◌<◌, ◌≤◌, Bool, true, false, cond, eqb, List, [], ◌∷◌, ◌++◌, length, get_or, take, drop, is_some, Some, None, MatchBool, Option, sym, refl, ap, ◌∙◌, true≢false, arith}
+-- Cutting text at marks.
+use Rattle.std.proofs.Common.{◌≡◌, ℕ, zero, suc, ◌+◌, ◌<◌, ◌≤◌, Bool, true, false, cond, eqb, List, [], ◌∷◌, length, get_or, take, drop, map, Some, None, Option, Bor, sym, refl, ap, ◌∙◌, arith}
 use Rattle.std.proofs.lemmas.Bool.{eq-eqb, ne_eqb}
-use Rattle.std.specs.Str.{bytes_eq}
-use Rattle.std.proofs.lemmas.Slice.Eq.{bytes_eq-Decides}
-use Rattle.std.proofs.lemmas.List.{append-nil, append_assoc, at_drop_more, at_drop_all, take_more, take_all}
-use Rattle.text.specs.Pieces.{longer, pieces, up_to, behind, others, last_of, after_last}
-
-pub same_when : (xs ys : List ℕ) (r : Bool) → MatchBool r (xs ≡ ys) (xs ≡ ys → ⊥) → r ≡ bytes_eq xs ys
-same_when xs ys true e = sym ((bytes_eq-Decides xs ys).1 e)
-same_when xs ys false n = by (bytes_eq xs ys) refl
-  where
-    by : (t : Bool) → bytes_eq xs ys ≡ t → false ≡ t
-    by true e = absurd (n ((bytes_eq-Decides xs ys).0 e))
-    by false e = refl
+use Rattle.std.proofs.lemmas.Iterator.{YieldsList}
+use Rattle.std.proofs.lemmas.Iterator.Consumers.{YieldsList-from_first}
+use Rattle.std.specs.Iterator.{YieldsFirstRef}
+use Rattle.std.specs.List.{last_or}
+use Rattle.std.specs.Option.{unwrap_or}
+use Rattle.text.specs.Pieces.{longer, pieces, up_to, behind, others, last_of, after_last, pieces_left}
+use Rattle.text.specs.declared.walk.Pieces.{Pieces}
 
 -- the pieces are the text up to the first mark and the pieces of what stands behind it
 pub pieces_cut : (mark : ℕ) (xs : List ℕ) → pieces mark xs ≡ up_to mark xs ∷ others mark (behind mark xs)
@@ -25,62 +20,51 @@ pieces_cut mark (x ∷ xs) = by (eqb x mark) (pieces_cut mark xs)
     by true h = refl
     by false h = ap (longer x) h
 
-none_some : (ys : List ℕ) → None ≡ Some ys → ⊥
-none_some ys e = true≢false (sym (ap is_some e))
+-- the text is cut where its first mark stands
+pub at_mark : (mark : ℕ) (xs : List ℕ) (i : ℕ) → i < length xs → get_or xs i 0 ≡ mark → ((k : ℕ) → k < i → get_or xs k 0 ≡ mark → ⊥)
+    → (take i xs ≡ up_to mark xs) × (Some (drop (i + 1) xs) ≡ behind mark xs)
+at_mark mark [] i l e n = absurd (omega arith)
+at_mark mark (x ∷ xs) zero l e n = let h = eq-eqb x mark e in simp h (refl, refl)
+at_mark mark (x ∷ xs) (suc i) l e n =
+    let h = ne_eqb x mark (n 0 (omega arith)) in
+    let r = at_mark mark xs i (omega arith) e (λ k b. n (suc k) (omega arith)) in
+    let j : suc i + 1 ≡ suc (i + 1) = omega arith in
+    simp h (ap (λ v. x ∷ v) r.0, ap (λ v. Some (drop v (x ∷ xs))) j ∙ r.1)
 
--- what stands behind a mark is shorter
-pub behind_shorter : (mark : ℕ) (xs ys : List ℕ) → behind mark xs ≡ Some ys → length ys < length xs
-behind_shorter mark [] ys e = absurd (none_some ys e)
-behind_shorter mark (x ∷ xs) ys e = by (eqb x mark) (behind_shorter mark xs ys) e
+-- text without a mark is whole
+pub no_mark : (mark : ℕ) (xs : List ℕ) → ((k : ℕ) → k < length xs → get_or xs k 0 ≡ mark → ⊥) → (xs ≡ up_to mark xs) × (None ≡ behind mark xs)
+no_mark mark [] n = (refl, refl)
+no_mark mark (x ∷ xs) n =
+    let h = ne_eqb x mark (n 0 (omega arith)) in
+    let r = no_mark mark xs (λ k b. n (suc k) (omega arith)) in
+    simp h (ap (λ v. x ∷ v) r.0, r.1)
+
+pub cut : (mark : ℕ) (xs : List ℕ) {front : List ℕ} {back : Option (List ℕ)} → front ≡ up_to mark xs → back ≡ behind mark xs → pieces mark xs ≡ front ∷ others mark back
+cut mark xs {front} f b = pieces_cut mark xs ∙ (ap (λ v. v ∷ others mark (behind mark xs)) (sym f) ∙ ap (λ v. front ∷ others mark v) (sym b))
+
+-- what the last of some references reads
+last_read : (x d : Bor (List ℕ)) (xs : List (Bor (List ℕ))) → (unwrap_or (last_or (Some x) xs) d).now ≡ last_of (map (λ y. y.now) (x ∷ xs))
+last_read x d [] = refl
+last_read x d (y ∷ xs) = last_read y d xs
+
+pub last_piece : (mark : ℕ) (text : List ℕ) (d : Bor (List ℕ)) (xs : List (Bor (List ℕ))) → map (λ y. y.now) xs ≡ pieces mark text → (unwrap_or (last_or None xs) d).now ≡ after_last mark text
+last_piece mark text d [] e = cc (pieces_cut mark text)
+last_piece mark text d (x ∷ xs) e = last_read x d xs ∙ ap last_of e
+
+-- there is one piece more than there are marks
+length-longer : (x : ℕ) (ps : List (List ℕ)) → length (longer x ps) ≡ length ps
+length-longer x [] = refl
+length-longer x (p ∷ ps) = refl
+
+pub pieces_count : (mark : ℕ) (xs : List ℕ) → length (pieces mark xs) ≤ length xs + 1
+unfolding pieces
+pieces_count mark [] = omega arith
+pieces_count mark (x ∷ xs) = by (eqb x mark) (pieces mark xs) (pieces_count mark xs)
   where
-    by : (t : Bool) → (behind mark xs ≡ Some ys → length ys < length xs) → cond t (Some xs) (behind mark xs) ≡ Some ys → length ys < length (x ∷ xs)
-    by true h e = let s : xs ≡ ys = cc (e) in let n = ap length s in omega arith
-    by false h e = let l = h e in omega arith
+    by : (t : Bool) (ps : List (List ℕ)) → length ps ≤ length xs + 1 → length (cond t ([] ∷ ps) (longer x ps)) ≤ length (x ∷ xs) + 1
+    by true ps h = omega arith
+    by false ps h = omega (arith, length-longer x ps)
 
--- The walk over the text to its place i: what was passed holds no mark.
-pub record Passed (mark : ℕ) (xs : List ℕ) (i : ℕ) : Type 0 where
-  pub front : take i xs ++ up_to mark (drop i xs) ≡ up_to mark xs
-  pub back : behind mark (drop i xs) ≡ behind mark xs
-
-module _ (mark : ℕ) (xs : List ℕ) (i : ℕ) (l : i < length xs) where
-  abbrev next : ℕ
-  next = get_or xs i 0
-
-  up_at : (t : Bool) → eqb next mark ≡ t → up_to mark (drop i xs) ≡ cond t [] (next ∷ up_to mark (drop (i + 1) xs))
-  up_at t h = at_drop_more (up_to mark) xs i 0 l ∙ ap (λ b. cond b [] (next ∷ up_to mark (drop (i + 1) xs))) h
-
-  behind_at : (t : Bool) → eqb next mark ≡ t → behind mark (drop i xs) ≡ cond t (Some (drop (i + 1) xs)) (behind mark (drop (i + 1) xs))
-  behind_at t h = at_drop_more (behind mark) xs i 0 l ∙ ap (λ b. cond b (Some (drop (i + 1) xs)) (behind mark (drop (i + 1) xs))) h
-
-  pub passed_more : (next ≡ mark → ⊥) → Passed mark xs i → Passed mark xs (i + 1)
-  passed_more n p =
-      let h = ne_eqb next mark n in
-      let on : take (i + 1) xs ++ up_to mark (drop (i + 1) xs) ≡ take i xs ++ up_to mark (drop i xs) =
-      ap (λ v. v ++ up_to mark (drop (i + 1) xs)) (take_more xs i 0 l)
-      ∙ (append_assoc (take i xs) (next ∷ []) (up_to mark (drop (i + 1) xs)) ∙ ap (λ v. take i xs ++ v) (sym (up_at false h))) in
-      record { front = on ∙ p.front; back = sym (behind_at false h) ∙ p.back }
-
-  pub passed_mark : next ≡ mark → Passed mark xs i → (take i xs ≡ up_to mark xs) × (Some (drop (i + 1) xs) ≡ behind mark xs)
-  passed_mark e p =
-      let h = eq-eqb next mark e in
-      (sym (ap (λ v. take i xs ++ v) (up_at true h) ∙ append-nil (take i xs)) ∙ p.front, sym (behind_at true h) ∙ p.back)
-
-pub passed_all : (mark : ℕ) (xs : List ℕ) (i : ℕ) → length xs ≤ i → Passed mark xs i → (xs ≡ up_to mark xs) × (None ≡ behind mark xs)
-passed_all mark xs i l p = (
-  sym (append-nil xs) ∙ (ap (λ v. v ++ []) (sym (take_all i xs l)) ∙ (ap (λ v. take i xs ++ v) (sym (at_drop_all (up_to mark) xs i l)) ∙ p.front)),
-  sym (at_drop_all (behind mark) xs i l) ∙ p.back,
-)
-
--- what split_once owes, from where the first mark stands
-pub record Cut (mark : ℕ) (xs front : List ℕ) (back : Option (List ℕ)) : Type 0 where
-  pub first : front ≡ up_to mark xs
-  pub second : back ≡ behind mark xs
-  pub walks : pieces mark xs ≡ front ∷ others mark back
-
-pub cut : (mark : ℕ) (xs front : List ℕ) (back : Option (List ℕ)) → front ≡ up_to mark xs → back ≡ behind mark xs → Cut mark xs front back
-cut mark xs front back f b = record { first = f; second = b; walks = pieces_cut mark xs ∙ (ap (λ v. v ∷ others mark (behind mark xs)) (sym f) ∙ ap (λ v. front ∷ others mark v) (sym b)) }
-
--- the last piece of what stands behind a mark is the last of all
-pub last_behind : (mark : ℕ) (xs ys : List ℕ) → behind mark xs ≡ Some ys → after_last mark xs ≡ after_last mark ys
-last_behind mark xs ys e =
-    ap last_of (pieces_cut mark xs ∙ ap (λ v. up_to mark xs ∷ others mark v) e) ∙ (ap (λ v. last_of (up_to mark xs ∷ v)) (pieces_cut mark ys) ∙ sym (ap last_of (pieces_cut mark ys)))
+-- an iterator over some pieces gives them
+pub gives_pieces : {p : Pieces} {ps : List (List ℕ)} → pieces_left p ≡ ps → YieldsList (YieldsFirstRef pieces_left) (λ y. y.now) p ps
+gives_pieces e = YieldsList-from_first (λ (y : Bor (List ℕ)). y.now) pieces_left _ e

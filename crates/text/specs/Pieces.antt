@@ -1,6 +1,7 @@
 -- Text cut at a mark: `a,b,,c` has at commas the pieces `a`, `b`, nothing and `c`; text without the mark is one piece.
 use Rattle.std.specs.Prelude.{ℕ, cond, List, [], ◌∷◌, Some, None, Option, ◌==◌}
 use Rattle.std.specs.Borrow.{Bor}
+use Rattle.text.specs.declared.walk.Pieces.{Pieces}
 
 -- a byte before the first of some pieces
 abbrev pub longer : ℕ → List (List ℕ) → List (List ℕ)
@@ -40,3 +41,7 @@ after_last mark xs = last_of (pieces mark xs)
 abbrev pub seen : Option (Bor (List ℕ)) → Option (List ℕ)
 seen None = None
 seen (Some r) = Some r.now
+
+-- the pieces that an iterator has still to give
+abbrev pub pieces_left : Pieces → List (List ℕ)
+pieces_left p = others p.mark (seen p.rest)

@@ -1,36 +1,27 @@
-use Rattle.std.proofs.Common.{length, sym, ◌∙◌, arith}
-use Rattle.std.proofs.lemmas.Bool.{eqb-true, eqb-false}
-use Rattle.targets.proofs.Walks.{shorter, group_more, group_wrong, group_last, group_none, group_empty}
+use Rattle.std.proofs.Common.{length, rules, ap, sym, ◌∙◌, arith}
+use Rattle.std.proofs.lemmas.Bool.{eqb-true}
+use Rattle.std.proofs.lemmas.Iterator.{YieldsList-from_take}
+use Rattle.std.proofs.lemmas.Iterator.Consumers.{count_from_yields_List, YieldsList-at}
+use Rattle.std.proofs.lemmas.Iterator.Search.{all_from_yields_List}
+use Rattle.text.proofs.Cuts.{gives_pieces}
+use Rattle.targets.specs.Addresses.{hex_group, last_group}
+use Rattle.targets.proofs.Groups.{groups_none, groups_some, groups_empty, some_piece}
 use Rattle.targets.proofs.count_groups.Goals as goal
 
 pub returns-then-is_empty : goal.returns-then-is_empty
-returns-then-is_empty c = group_empty c.args.dotted c.args.text.now (eqb-true (length c.args.text.now) 0 (sym c.if-is_empty.ensures))
+returns-then-is_empty c = groups_empty c.args.dotted c.args.text.now (eqb-true (length c.args.text.now) 0 (sym c.if-is_empty.ensures))
 
-pub loop-group-init : goal.loop-group-init
-loop-group-init c = (group_none c.args.dotted c.args.text.now (eqb-false (length c.args.text.now) 0 (sym c.if-is_empty.ensures)), omega arith)
+pub returns-in_err-last : goal.returns-in_err-last
+returns-in_err-last c =
+    c.from_residual.ensures ∙ groups_none c.args.dotted c.args.text.now c.if-is_empty.ensures (ap (last_group c.args.dotted) (sym c.after_last.ensures) ∙ (sym c.last_group.ensures ∙ c.in_err-last.was))
 
-pub returns-then-not-is_hex_group : goal.returns-then-not-is_hex_group
-returns-then-not-is_hex_group c =
-    group_wrong c.args.dotted c.loop-group.n c.loop-group.tail.now c.split_once.ensures.walks c.in_default-Some.is-1 c.if-not-is_hex_group.ensures ∙ c.loop-group.invariant.0
+pub overflow_sub-before_last : goal.overflow_sub-before_last
+overflow_sub-before_last c =
+    let n = count_from_yields_List _ c.count-before_last.result c.count-before_last.ensures.ran (gives_pieces c.pieces.ensures.all) in
+    omega (arith, n, some_piece 0x3A c.args.text.now)
 
-pub loop-group-smaller : goal.loop-group-smaller
-loop-group-smaller c = shorter 0x3A c.loop-group.tail.now c.in_default-Some.is-1 c.in_default-Some.rest-is c.split_once.ensures.second
-
-pub loop-group-preserved : goal.loop-group-preserved
-loop-group-preserved c =
-    let l = shorter 0x3A c.loop-group.tail.now c.in_default-Some.is-1 c.in_default-Some.rest-is c.split_once.ensures.second in (
-      group_more c.args.dotted c.loop-group.n c.loop-group.tail.now c.split_once.ensures.walks c.in_default-Some.is-1 c.in_default-Some.rest-is c.if-not-is_hex_group.ensures
-          ∙ c.loop-group.invariant.0,
-      omega arith,
-    )
-
-pub returns-in_err-last_group-in_default-None : goal.returns-in_err-last_group-in_default-None
-returns-in_err-last_group-in_default-None c =
-    c.from_residual.ensures
-    ∙ (group_last c.args.dotted c.loop-group.n c.loop-group.tail.now c.split_once.ensures.walks c.in_default-None.is-1 c.in_err-last_group-in_default-None.was c.last_group.ensures
-    ∙ c.loop-group.invariant.0)
-
-pub returns-in_default-None : goal.returns-in_default-None
-returns-in_default-None c =
-    group_last c.args.dotted c.loop-group.n c.loop-group.tail.now c.split_once.ensures.walks c.in_default-None.is-1 c.in_ok-last_group-in_default-None.was c.last_group.ensures
-    ∙ c.loop-group.invariant.0
+pub returns : goal.returns
+returns c =
+    let n = count_from_yields_List _ c.count-before_last.result c.count-before_last.ensures.ran (gives_pieces c.pieces.ensures.all) in
+    let hex = all_from_yields_List hex_group _ _ c.all.result c.all.ensures.ran (YieldsList-from_take _ (YieldsList-at c.take.ensures.source (gives_pieces c.pieces-2.ensures.all)) c.take.ensures.count) (λ x b q k. search rules) in
+    c.then_some.ensures ∙ groups_some c.args.dotted c.args.text.now _ c.in_ok-last.last c.all.result c.if-is_empty.ensures n hex (ap (last_group c.args.dotted) (sym c.after_last.ensures) ∙ (sym c.last_group.ensures ∙ c.in_ok-last.was))
