@@ -1,5 +1,5 @@
 -- What an initiator holds to after it heard the acceptor's choice.
-use Rattle.std.proofs.Common.{◌≡◌, ℕ, Bool, true, false, cond, not, ◌&&◌, List, [], ◌∷◌, is_some, Some, None, Ok, Err, Option, Result, sym, refl, ap, ◌∙◌, subst, true≢false}
+use Rattle.std.proofs.Common.{◌≡◌, ℕ, Bool, true, false, cond, List, [], ◌∷◌, is_some, Some, None, Ok, Err, Option, Result, sym, refl, ap, ◌∙◌, subst, true≢false}
 use Rattle.sspi.specs.declared.fault.Fault.{Fault}
 use Rattle.der.proofs.Ways.{err_ok, same_ok}
 use Rattle.names.proofs.Finds.{found, mech_back}
@@ -12,7 +12,7 @@ use Rattle.packages.specs.declared.protocol.Protocol.{Protocol}
 use Rattle.packages.specs.declared.protocol.Protocol.TheVariants as protocol
 use Rattle.choice.specs.Agreeing.{agreed_kerberos, agreed_ntlm, agreed_on, agreed}
 use Rattle.choice.specs.Promises.{Agrees, Agreement}
-use Rattle.choice.specs.Rules.{protocol_of, is_kerberos, no_mechanism}
+use Rattle.choice.specs.Rules.{protocol_of, no_mechanism}
 use Rattle.choice.specs.declared.by_mech_type.Agreed.{Agreed}
 
 -- a test that lets through, or refuses

@@ -1,12 +1,15 @@
 -- A choice means what it should: a mechanism that may be chosen, where it is listed first; and a refusal that none is there.
-use Rattle.std.proofs.Common.{◌≡◌, ℕ, zero, suc, ◌+◌, ◌<◌, Bool, true, false, cond, ◌&&◌, List, [], ◌∷◌, length, get_or, is_some, is_ok, Some, None, Ok, Err, Option, Result, sym, refl, ap, ◌∙◌, subst, true≢false, arith}
+use Rattle.std.proofs.Common.{◌≡◌, ℕ, zero, suc, ◌+◌, ◌<◌, Bool, true, false, cond, ◌&&◌, List, [], ◌∷◌, is_some, Some, None, Ok, Err, Option, Result, sym, refl, ap, ◌∙◌, subst, true≢false, arith}
 use Rattle.std.specs.Str.{bytes_eq}
 use Rattle.std.proofs.lemmas.Slice.Eq.{bytes_eq-Decides}
 use Rattle.std.proofs.lemmas.Bool.{and_parts}
 use Rattle.sspi.specs.declared.fault.Fault.{Fault}
 use Rattle.der.specs.Reading.{and_then}
 use Rattle.der.proofs.Ways.{err_ok, same_ok}
+use Rattle.mech_types.proofs.Listing.{listed-items}
+use Rattle.mech_types.specs.Listed.{listed, items}
 use Rattle.mech_types.specs.Reading.{read_mech_type_list}
+use Rattle.mech_types.specs.declared.MechTypeList.{MechTypeList}
 use Rattle.names.specs.Names.{mech_oid, mech_number}
 use Rattle.names.specs.declared.mech.Mech.{Mech}
 use Rattle.names.specs.declared.mech.Mech.TheVariants.{Spnego, MsKrb5, Krb5, Ntlm}
@@ -132,14 +135,7 @@ pub choice_refused : (list : List ℕ) (on : PackageListConfig) (running : Proto
 unfolding choice
 choice_refused list on running e h = ap (λ v. and_then v (λ ps. chosen ps on running)) h
 
--- a result that is no refusal holds something
-ok_of : {X : Type 0} (r : Result X Fault) → true ≡ is_ok r → (x : X) × (r ≡ Ok x)
-ok_of (Ok x) h = (x, refl)
-ok_of (Err e) h = absurd (true≢false h)
-
-pub choice_made : (list : List ℕ) (on : PackageListConfig) (running : Protocol) (r : Result (ℕ × ℕ) Fault) (listed : Result Oids Fault) → listed ≡ read_mech_type_list list → true ≡ is_ok (read_mech_type_list list)
-    → ((os : Oids) → listed ≡ Ok os → r ≡ chosen_of preferred os on running) → r ≡ choice list on running
+-- a list that was read
+pub choice_made : (list : List ℕ) (on : PackageListConfig) (running : Protocol) (l : MechTypeList) → listed l ≡ read_mech_type_list list → chosen_of preferred (items l) on running ≡ choice list on running
 unfolding choice chosen
-choice_made list on running r listed a t f =
-    let o = ok_of (read_mech_type_list list) t in
-    f o.0 (a ∙ o.1) ∙ sym (ap (λ v. and_then v (λ ps. chosen_of preferred ps on running)) o.1)
+choice_made list on running l r = ap (λ v. and_then v (λ os. chosen os on running)) (sym (listed-items l) ∙ r)

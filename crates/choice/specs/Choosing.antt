@@ -1,6 +1,6 @@
 -- The acceptor's choice: of the mechanisms it may choose, the first in its own order of preference that the initiator lists, and
 -- the first place where it is listed.
-use Rattle.std.specs.Prelude.{ℕ, suc, ◌+◌, cond, List, [], ◌∷◌, Some, None, Ok, Err, Option, Result, ◌==◌}
+use Rattle.std.specs.Prelude.{ℕ, ◌+◌, cond, List, [], ◌∷◌, Some, None, Ok, Err, Option, Result, ◌==◌}
 use Rattle.choice.specs.Rules.{eligible, no_mechanism}
 use Rattle.der.specs.Reading.{and_then}
 use Rattle.mech_types.specs.Reading.{read_mech_type_list}

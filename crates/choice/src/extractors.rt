@@ -3,7 +3,7 @@ ghost use Rattle.choice.specs.Choosing.{place_of, standing, chosen_of, choice, r
 ghost use Rattle.choice.specs.Rules.{eligible};
 ghost use Rattle.choice.specs.Promises.{Choice};
 ghost use Rattle.mech_types.specs.Reading.{read_mech_type_list};
-ghost use Rattle.mech_types.specs.Views.{listed};
+ghost use Rattle.mech_types.specs.Listed.{items};
 
 use mech_types::MechTypeList;
 use names::Mech;
@@ -32,16 +32,12 @@ fn is_eligible(mech: Mech, enabled: PackageListConfig, running: Protocol) -> boo
 
 // The first place of an object identifier in the list.
 fn position(list: MechTypeList<'_>, oid: &[u8]) -> Option<usize>
-    ensures { (os : List (List ℕ)) → listed list.entry ≡ Ok os → result ≡ place_of oid.now os }
+    ensures { result ≡ place_of oid.now (items list.entry) }
 {
-    let mut rest = list;
-    let mut i = 0;
-    while let Some((first, others)) = rest.split_first() {
-        if first == oid {
+    for (i, listed) in list.enumerate() {
+        if listed == oid {
             return Some(i);
         }
-        rest = others;
-        i += 1;
     }
     None
 }
@@ -53,7 +49,7 @@ fn find(
     enabled: PackageListConfig,
     running: Protocol,
 ) -> Option<usize>
-    ensures { (os : List (List ℕ)) → listed list.entry ≡ Ok os → result ≡ standing os enabled running mech }
+    ensures { result ≡ standing (items list.entry) enabled running mech }
 {
     if !is_eligible(mech, enabled, running) {
         return None;
@@ -68,7 +64,7 @@ fn choose(
     enabled: PackageListConfig,
     running: Protocol,
 ) -> Result<(u32, usize), Fault>
-    ensures { (os : List (List ℕ)) → listed list.entry ≡ Ok os → result ≡ chosen_of mechs.now os enabled running }
+    ensures { result ≡ chosen_of mechs.now (items list.entry) enabled running }
 {
     for mech in mechs {
         if let Some(i) = find(*mech, list, enabled, running) {

@@ -1,5 +1,5 @@
 -- Lists of object identifiers: what is written is read back, what is read is the writing, and how a loop goes through one.
-use Rattle.std.proofs.Common.{◌≡◌, ℕ, zero, suc, ◌+◌, ◌-◌, ◌<◌, ◌≤◌, true, false, cond, ◌&&◌, eqb, List, [], ◌∷◌, ◌++◌, length, is_ok, Ok, Err, Result, sym, refl, ap, ◌∙◌, subst, ⊎_elim, arith, length-append}
+use Rattle.std.proofs.Common.{◌≡◌, ℕ, zero, suc, ◌+◌, ◌-◌, ◌<◌, ◌≤◌, true, false, cond, ◌&&◌, eqb, List, [], ◌∷◌, ◌++◌, length, is_ok, IsOk, Some, None, Ok, Err, Result, sym, refl, ap, ◌∙◌, subst, ⊎_elim, arith, true≢false, length-append}
 use Rattle.std.proofs.lemmas.List.{nil_from_length}
 use Rattle.std.proofs.lemmas.Bool.{eq-eqb, ne_eqb, eqb-true, eqb-false, and_parts, and_from, cond-true, cond-false, cases_eq}
 use Rattle.sspi.specs.declared.fault.Fault.{Fault}
@@ -9,8 +9,11 @@ use Rattle.der.specs.Reading.{illegal, and_then, take_of, only_of}
 use Rattle.der.proofs.Promised.{exact_from}
 use Rattle.der.proofs.Ways.{err_ok, ways, let_through, Only, only_then, only_cond}
 use Rattle.der.proofs.Taking.{both, length-element, take_written, take_read, only_written, only_read, refused_take, refused_only}
+use Rattle.mech_types.specs.Listed.{listed, items}
 use Rattle.mech_types.specs.Lists.{oids, mech_type_list, all_oids, GoodList}
 use Rattle.mech_types.specs.Reading.{next_of, before, oids_up_to, oids_of, read_mech_type_list}
+use Rattle.mech_types.specs.declared.MechTypeList.{MechTypeList}
+use Rattle.std.specs.Result.{result_ok, result_unwrap_or}
 
 abbrev Next : Type 0
 Next = List ℕ × List ℕ
@@ -71,6 +74,14 @@ pub oids_refused : (xs : List ℕ) (e : Fault) → (length xs ≡ 0 → ⊥) →
 oids_refused xs e l r =
     let n : ℕ = length xs - 1 in
     some_oids n xs (omega arith) ∙ ap (λ v. and_then v (λ x. before x.0 (oids_up_to n x.1))) r
+
+-- what follows an object identifier of a legal list is a legal list
+is_ok-before : (o : List ℕ) (r : Result (List (List ℕ)) Fault) → is_ok (before o r) ≡ is_ok r
+is_ok-before o (Ok os) = refl
+is_ok-before o (Err e) = refl
+
+pub legal_more : (xs : List ℕ) (y : Next) → next_of xs ≡ Ok y → IsOk (oids_of xs) → IsOk (oids_of y.1)
+legal_more xs y r l = sym (ap is_ok (oids_more xs y r) ∙ is_ok-before y.0 (oids_of y.1)) ∙ l
 
 -- whether a list is accepted, and the refusal if not
 abbrev pub verdict : Result (List (List ℕ)) Fault → Result ℕ Fault
@@ -143,9 +154,19 @@ list_read_lem xs os r =
     (f.0 ∙ ap (element 0x30) d.0, d.1, subst (λ (v : List ℕ). length v < 65536) d.0 f.2)
 
 -- a legal list ends where no object identifier is left
-pub oids_end : (xs : List ℕ) (e : Fault) → next_of xs ≡ Err e → (os : List (List ℕ)) → oids_of xs ≡ Ok os → ◌≡◌ {A = Result (List (List ℕ)) Fault} (Ok []) (Ok os)
-oids_end xs e r os h =
-    ⊎_elim (λ z. sym (oids_none xs z) ∙ h) (λ z. absurd (err_ok e os (sym (oids_refused xs e z r) ∙ h))) (cases_eq (length xs) 0)
+some_next : (r : Result Next Fault) (y : Next) → Some y ≡ result_ok r → r ≡ Ok y
+some_next (Ok x) y h = ap Ok (cc (h))
+some_next (Err e) y h = cc
+
+pub next_some : (xs : List ℕ) (y : Next) → Some y ≡ result_ok (next_of xs) → next_of xs ≡ Ok y
+next_some xs y h = some_next (next_of xs) y h
+
+ends : (xs : List ℕ) (r : Result Next Fault) → next_of xs ≡ r → None ≡ result_ok r → IsOk (oids_of xs) → Ok [] ≡ oids_of xs
+ends xs (Ok y) n h l = cc (h)
+ends xs (Err e) n h l = ⊎_elim (λ z. sym (oids_none xs z)) (λ z. absurd (true≢false (sym l ∙ ap is_ok (oids_refused xs e z n)))) (cases_eq (length xs) 0)
+
+pub oids_end : (xs : List ℕ) → None ≡ result_ok (next_of xs) → IsOk (oids_of xs) → Ok [] ≡ oids_of xs
+oids_end xs h l = ends xs (next_of xs) refl h l
 
 -- where the loop leaves: at a refusal, and at the end
 pub verdict_refused : (xs : List ℕ) (e : Fault) → false ≡ eqb (length xs) 0 → next_of xs ≡ Err e → verdict (oids_of xs) ≡ Err e
@@ -175,3 +196,19 @@ exact_list =
 
 pub exact_at_list : (xs : List ℕ) (r : Result (List (List ℕ)) Fault) → r ≡ read_mech_type_list xs → Exact GoodList mech_type_list xs r
 exact_at_list xs r e = subst (Exact GoodList mech_type_list xs) (sym e) (exact_list xs)
+
+-- every list is legal, so its object identifiers are those that its bytes are read as, and no more than there are bytes
+ok_items : (r : Result (List (List ℕ)) Fault) → IsOk r → r ≡ Ok (result_unwrap_or r [])
+ok_items (Ok os) h = refl
+ok_items (Err e) h = absurd (true≢false (sym h))
+
+pub listed-items : (l : MechTypeList) → listed l ≡ Ok (items l)
+listed-items l = ok_items (listed l) l.legal
+
+length-oids : (os : List (List ℕ)) → length os ≤ length (oids os)
+unfolding oids header element
+length-oids [] = omega arith
+length-oids (o ∷ os) = omega (arith, length-oids os, length-append (element 0x06 o) (oids os))
+
+pub items_short : (l : MechTypeList) → length (items l) ≤ length l.oids.now
+items_short l = let e = ap length (oids_read l.oids.now (items l) (listed-items l)).0 in omega (arith, e, length-oids (items l))

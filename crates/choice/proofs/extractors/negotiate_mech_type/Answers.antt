@@ -11,6 +11,5 @@ returns-in_err-read c =
 
 pub returns : goal.returns
 returns c =
-    let e = choice_made c.args.mech_types.now c.args.enabled c.args.running c.choose.result _
-    c.in_ok-read.ensures.answer c.in_ok-read.ensures.test c.choose.ensures in
+    let e = c.choose.ensures ∙ choice_made c.args.mech_types.now c.args.enabled c.args.running c.in_ok-read.field-0 c.in_ok-read.ensures.answer in
     record { answer = e; means = choice_means c.args.mech_types.now c.args.enabled c.args.running c.choose.result e }
