@@ -1,4 +1,2 @@
-pub mod Falling
 pub mod Placing
 pub mod Chosen
-pub mod Agreeing
