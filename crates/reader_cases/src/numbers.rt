@@ -1,24 +1,24 @@
 use sspi::{ErrorKind, Fault, Layer, SecurityStatus};
+use std::fmt::Debug;
 use std::process::Abort;
 
-// Each number gives the kind beside it, or none.
-fn kinds_at(rt: &impl Abort, rows: &[(u32, Option<ErrorKind>)]) {
-    for (n, kind) in rows {
-        assert_eq!(rt; ErrorKind::from_number(*n), *kind);
-    }
-}
-
-// Each number gives the status beside it, or none.
-fn statuses_at(rt: &impl Abort, rows: &[(u32, Option<SecurityStatus>)]) {
-    for (n, status) in rows {
-        assert_eq!(rt; SecurityStatus::from_number(*n), *status);
+// Each number gives the value beside it, or none.
+fn values_at<T, F>(rt: &impl Abort, from_number: F, rows: &[(u32, Option<T>)])
+where
+    T: Copy + PartialEq + Debug,
+    F: Fn(u32) -> Option<T>,
+    requires { F.IsAlwaysCallable from_number }
+{
+    for (n, value) in rows {
+        assert_eq!(rt; from_number(*n), *value);
     }
 }
 
 #[test]
 fn kinds_by_number(rt: HostRuntime) {
-    kinds_at(
+    values_at(
         &rt,
+        ErrorKind::from_number,
         &[
             (0, Some(ErrorKind::Unknown)),
             (0x80090300, Some(ErrorKind::InsufficientMemory)),
@@ -38,8 +38,9 @@ fn kinds_by_number(rt: HostRuntime) {
 
 #[test]
 fn numbers_of_no_kind(rt: HostRuntime) {
-    kinds_at(
+    values_at(
         &rt,
+        ErrorKind::from_number,
         &[
             (1, None),
             (0x00090312, None),
@@ -55,8 +56,9 @@ fn numbers_of_no_kind(rt: HostRuntime) {
 
 #[test]
 fn statuses_by_number(rt: HostRuntime) {
-    statuses_at(
+    values_at(
         &rt,
+        SecurityStatus::from_number,
         &[
             (0, Some(SecurityStatus::Ok)),
             (0x00090312, Some(SecurityStatus::ContinueNeeded)),
