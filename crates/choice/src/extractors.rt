@@ -54,6 +54,7 @@ impl Acceptor {
     fn choose(self, mechs: &[Mech], list: MechTypeList<'_>) -> Result<(u32, usize), Fault>
         ensures { result ≡ chosen_of mechs.now (items list.entry) self.enabled self.running }
     {
+        // A loop: `find_map` speaks of places only, and the contract did not follow.
         for mech in mechs {
             if let Some(i) = self.find(*mech, list) {
                 return Ok((mech.number(), i));

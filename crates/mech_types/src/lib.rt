@@ -34,19 +34,14 @@ impl<'a> MechTypeList<'a> {
     ghost use Rattle.mech_types.specs.Listed.{listed, list_read, splits, split};
 
     // Reads a list that fills the input.
+    #[tactic(auto, using(crate::proofs::Listing::exact_at_list), unfolding(crate::specs::Reading::read_mech_type_list))]
     pub fn read(input: &'a [u8]) -> Result<MechTypeList<'a>, Fault>
         ensures answer { list_read result ≡ read_mech_type_list input.now }
         ensures test { is_ok result ≡ is_ok (read_mech_type_list input.now) }
         ensures exact { Exact GoodList mech_type_list input.now (list_read result) }
     {
-        Self::parse(input)
-    }
-
-    fn parse(input: &'a [u8]) -> Result<MechTypeList<'a>, Fault>
-        ensures answer { list_read result ≡ read_mech_type_list input.now }
-        ensures test { is_ok result ≡ is_ok (read_mech_type_list input.now) }
-    {
         let oids = only(input, 0x30)?;
+        // A loop over bytes: an iterator would first have to be known to be legal.
         let mut rest = oids;
         while !rest.is_empty() {
             (_, rest) = next_oid(rest)?;
