@@ -1,4 +1,1 @@
-pub mod Falling
-pub mod Placing
 pub mod Chosen
-pub mod Agreeing

@@ -1,5 +1,5 @@
 ghost use Rattle.std.specs.Prelude.{◌≡◌};
-ghost use Rattle.choice.specs.Agreeing.{agreed_kerberos, agreed_ntlm, agreed};
+ghost use Rattle.choice.specs.Agreeing.{agreed};
 ghost use Rattle.choice.specs.Promises.{Agreement};
 
 use crate::extractors::NO_MECHANISM;
@@ -15,61 +15,8 @@ pub struct Agreed {
     pub mic_needed: bool,
 }
 
-// Kerberos was chosen: NTLM is closed, and a MIC is owed if Kerberos did not run before.
-fn agree_kerberos(
-    enabled: PackageListConfig,
-    running: Protocol,
-    mic_needed: bool,
-) -> Result<Agreed, Fault>
-    ensures { result ≡ agreed_kerberos enabled running mic_needed }
-{
-    if !enabled.kerberos {
-        return Err(NO_MECHANISM);
-    }
-    Ok(Agreed {
-        enabled: PackageListConfig {
-            ntlm: false,
-            ..enabled
-        },
-        running: Protocol::Kerberos,
-        mic_needed: mic_needed || running != Protocol::Kerberos,
-    })
-}
-
-// NTLM was chosen: Kerberos is closed, and everybody but a guest owes a MIC.
-fn agree_ntlm(enabled: PackageListConfig, guest: bool) -> Result<Agreed, Fault>
-    ensures { result ≡ agreed_ntlm enabled guest }
-{
-    if !enabled.ntlm {
-        return Err(NO_MECHANISM);
-    }
-    Ok(Agreed {
-        enabled: PackageListConfig {
-            kerberos: false,
-            ..enabled
-        },
-        running: Protocol::Ntlm,
-        mic_needed: !guest,
-    })
-}
-
-fn agree(
-    mech_type: &[u8],
-    enabled: PackageListConfig,
-    running: Protocol,
-    mic_needed: bool,
-    guest: bool,
-) -> Result<Agreed, Fault>
-    ensures { result ≡ agreed mech_type.now enabled running mic_needed guest }
-{
-    match Mech::try_from(mech_type) {
-        Ok(Mech::MsKrb5 | Mech::Krb5) => agree_kerberos(enabled, running, mic_needed),
-        Ok(Mech::Ntlm) => agree_ntlm(enabled, guest),
-        Ok(Mech::Spnego) | Err(_) => Err(NO_MECHANISM),
-    }
-}
-
 // What follows for an initiator from the mechanism that the acceptor chose; `guest` says that the user of this call is a guest.
+// Kerberos closes NTLM, and a MIC is owed if Kerberos did not run before; NTLM closes Kerberos, and everybody but a guest owes a MIC.
 pub fn negotiate_protocol_by_mech_type(
     mech_type: &[u8],
     enabled: PackageListConfig,
@@ -80,5 +27,23 @@ pub fn negotiate_protocol_by_mech_type(
     ensures answer { result ≡ agreed mech_type.now enabled running mic_needed guest }
     ensures means { Agreement mech_type.now enabled result }
 {
-    agree(mech_type, enabled, running, mic_needed, guest)
+    match Mech::try_from(mech_type) {
+        Ok(Mech::MsKrb5 | Mech::Krb5) if enabled.kerberos => Ok(Agreed {
+            enabled: PackageListConfig {
+                ntlm: false,
+                ..enabled
+            },
+            running: Protocol::Kerberos,
+            mic_needed: mic_needed || running != Protocol::Kerberos,
+        }),
+        Ok(Mech::Ntlm) if enabled.ntlm => Ok(Agreed {
+            enabled: PackageListConfig {
+                kerberos: false,
+                ..enabled
+            },
+            running: Protocol::Ntlm,
+            mic_needed: !guest,
+        }),
+        _ => Err(NO_MECHANISM),
+    }
 }

@@ -1,5 +1,5 @@
 ghost use Rattle.std.specs.Prelude.{◌≡◌, Decides};
-ghost use Rattle.choice.specs.Fallback.{among, falls_back, Among, fallback_kinds};
+ghost use Rattle.choice.specs.Fallback.{falls_back, Among, fallback_kinds};
 
 use sspi::ErrorKind;
 
@@ -12,21 +12,10 @@ pub const NTLM_FALLBACK_ERROR_KINDS: [ErrorKind; 4] = [
     ErrorKind::UnknownCredentials,
 ];
 
-fn contains(kinds: &[ErrorKind], kind: ErrorKind) -> bool
-    ensures { result ≡ among kind kinds.now }
-{
-    for k in kinds {
-        if *k == kind {
-            return true;
-        }
-    }
-    false
-}
-
 // Whether a fault of this kind leads from Kerberos to NTLM.
 pub fn leads_to_ntlm(kind: ErrorKind) -> bool
     ensures answer { result ≡ falls_back kind }
     ensures exactly { Decides result (Among kind fallback_kinds) }
 {
-    contains(&NTLM_FALLBACK_ERROR_KINDS, kind)
+    NTLM_FALLBACK_ERROR_KINDS.contains(&kind)
 }

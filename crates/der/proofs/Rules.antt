@@ -1,47 +1,8 @@
--- The rules of an object identifier and of a bit string, as the loops and matches meet them.
-use Rattle.std.proofs.Common.{◌≡◌, ℕ, zero, suc, ◌+◌, ◌-◌, ◌<◌, ◌≤◌, Bool, true, false, not, ◌&&◌, eqb, ltb, leb, ◌⊎◌, List, [], ◌∷◌, length, get_or, drop, Decides, refl, ap, ◌∙◌, inl, inr, ⊎_elim, arith}
-use Rattle.std.proofs.lemmas.List.{at_drop_more, at_drop_all}
-use Rattle.std.proofs.lemmas.Bool.{lt-ltb, ltb-true, ne_eqb, eqb-true, eqb-false, leb-true, le-leb, cases_lt}
-use Rattle.std.proofs.lemmas.Bool.Decides.{nat_tests, Decides-at, Decides-eqb, Decides-ltb, Decides-and, Decides-or, Decides-not, Decides-like}
-use Rattle.der.specs.Elements.{arcs, oid, bit_string, ArcBegins, ObjectIdentifier, BitString}
-
-pub bits_none : (xs : List ℕ) → length xs ≡ 0 → bit_string xs ≡ false
-unfolding bit_string
-bits_none xs e = simp e
-
-pub bits_one : (xs : List ℕ) → length xs ≡ 1 → bit_string xs ≡ eqb (get_or xs 0 0) 0
-unfolding bit_string
-bits_one xs e = simp e (grind (arith, nat_tests))
-
-pub bits_more : (xs : List ℕ) → 2 ≤ length xs → bit_string xs ≡ leb (get_or xs 0 0) 7
-unfolding bit_string
-bits_more xs l = grind (arith, nat_tests)
-
--- one byte more of a row of arcs, and its end
-arcs_at : (begins : Bool) (xs : List ℕ) (i : ℕ) → i < length xs
-    → arcs begins (drop i xs) ≡ (not (begins && eqb (get_or xs i 0) 0x80) && arcs (ltb (get_or xs i 0) 0x80) (drop (i + 1) xs))
-arcs_at begins xs i l = at_drop_more (arcs begins) xs i 0 l
-
-pub arcs_stop : (begins : Bool) (xs : List ℕ) (i : ℕ) → i < length xs → begins ≡ true → get_or xs i 0 ≡ 0x80 → arcs begins (drop i xs) ≡ false
-arcs_stop begins xs i l h e = arcs_at begins xs i l ∙ simp (h, e)
-
-pub arcs_inside : (begins : Bool) (xs : List ℕ) (i : ℕ) → i < length xs → begins ≡ false → arcs begins (drop i xs) ≡ arcs (ltb (get_or xs i 0) 0x80) (drop (i + 1) xs)
-arcs_inside begins xs i l h = arcs_at begins xs i l ∙ simp h
-
-pub arcs_begin : (begins : Bool) (xs : List ℕ) (i : ℕ) → i < length xs → begins ≡ true → (get_or xs i 0 ≡ 0x80 → ⊥)
-    → arcs begins (drop i xs) ≡ arcs (ltb (get_or xs i 0) 0x80) (drop (i + 1) xs)
-arcs_begin begins xs i l h e = arcs_at begins xs i l ∙ simp (h, ne_eqb (get_or xs i 0) 0x80 e)
-
-pub arcs_all : (begins : Bool) (xs : List ℕ) (i : ℕ) → length xs ≤ i → arcs begins (drop i xs) ≡ begins
-arcs_all begins xs i l = at_drop_all (arcs begins) xs i l
-
-pub oid_none : (xs : List ℕ) → eqb (length xs) 0 ≡ true → oid xs ≡ false
-unfolding oid
-oid_none xs e = simp (eqb-true (length xs) 0 e)
-
-pub oid_some : (xs : List ℕ) → eqb (length xs) 0 ≡ false → oid xs ≡ arcs true xs
-unfolding oid
-oid_some xs e = let h = eqb-false (length xs) 0 e in let l : 0 < length xs = omega arith in simp (lt-ltb 0 (length xs) l)
+-- The test for an object identifier decides its rule.
+use Rattle.std.proofs.Common.{◌≡◌, ℕ, zero, suc, ◌-◌, ◌<◌, true, eqb, ltb, List, [], ◌∷◌, length, get_or, Decides, refl, ap, inl, inr, arith}
+use Rattle.std.proofs.lemmas.Bool.{lt-ltb, ltb-true}
+use Rattle.std.proofs.lemmas.Bool.Decides.{Decides-eqb, Decides-ltb, Decides-and, Decides-not, Decides-like}
+use Rattle.der.specs.Elements.{arcs, oid, ArcBegins, ObjectIdentifier}
 
 -- a row of arcs behind the byte p, which ends an arc where it is below 0x80: the last byte ends an arc, and no byte 0x80 follows one that does
 Row : ℕ → List ℕ → Type 0
@@ -98,23 +59,3 @@ rule_row (b ∷ bs) o = (o.some, (omega (arith, before (b ∷ bs) (length bs), o
 pub decides_oid : (xs : List ℕ) → Decides (oid xs) (ObjectIdentifier xs)
 unfolding oid
 decides_oid xs = Decides-like _ (oid_rule xs) (rule_row xs) (Decides-and (ltb 0 (length xs)) (arcs true xs) (Decides-ltb 0 (length xs)) (arcs_row 0 xs))
-
-pub oid_ruled : (r : Bool) (xs : List ℕ) → r ≡ oid xs → Decides r (ObjectIdentifier xs)
-oid_ruled r xs e = Decides-at r (oid xs) e (decides_oid xs)
-
--- a first byte of at most 7, and 0 where it stands alone
-bits_rule : (xs : List ℕ) → (0 < length xs) × ((get_or xs 0 0 ≤ 7) × ((1 < length xs) ⊎ (get_or xs 0 0 ≡ 0))) → BitString xs
-bits_rule xs f = record { some = f.0; unused = f.1.0; none = λ e. ⊎_elim (λ l. absurd (omega arith)) (λ z. z) f.1.1 }
-
-rule_bits : (xs : List ℕ) → BitString xs → (0 < length xs) × ((get_or xs 0 0 ≤ 7) × ((1 < length xs) ⊎ (get_or xs 0 0 ≡ 0)))
-rule_bits xs b = (b.some, (b.unused, ⊎_elim inl (λ l. inr (b.none (omega (arith, b.some)))) (cases_lt 1 (length xs))))
-
-pub decides_bits : (xs : List ℕ) → Decides (bit_string xs) (BitString xs)
-unfolding bit_string
-decides_bits xs =
-    let small : Decides (leb (get_or xs 0 0) 7) (get_or xs 0 0 ≤ 7) = (leb-true _ _, le-leb _ _) in
-    let more = Decides-or (ltb 1 (length xs)) (eqb (get_or xs 0 0) 0) (Decides-ltb 1 (length xs)) (Decides-eqb (get_or xs 0 0) 0) in
-    Decides-like _ (bits_rule xs) (rule_bits xs) (Decides-and _ _ (Decides-ltb 0 (length xs)) (Decides-and _ _ small more))
-
-pub bits_ruled : (r : Bool) (xs : List ℕ) → r ≡ bit_string xs → Decides r (BitString xs)
-bits_ruled r xs e = Decides-at r (bit_string xs) e (decides_bits xs)

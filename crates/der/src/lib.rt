@@ -69,17 +69,14 @@ pub fn only(input: &[u8], tag: u8) -> Result<&[u8], Fault>
 pub fn is_element(input: &[u8]) -> bool
     ensures { result ≡ one_element input.now }
 {
-    match take(input) {
-        Ok((_, _, rest)) => rest.is_empty(),
-        Err(_) => false,
-    }
+    take(input).is_ok_and(|(_, _, rest)| rest.is_empty())
 }
 
 // The content of an element of this tag, if the input begins with the tag, and what follows.
 pub fn optional(input: &[u8], tag: u8) -> Result<(Option<&[u8]>, &[u8]), Fault>
     ensures { plain_optional result ≡ optional_of tag input.now }
 {
-    if input.is_empty() || input[0] != tag {
+    if input.first() != Some(&tag) {
         return Ok((None, input));
     }
     let (_, content, rest) = take(input)?;
@@ -87,6 +84,7 @@ pub fn optional(input: &[u8], tag: u8) -> Result<(Option<&[u8]>, &[u8]), Fault>
 }
 
 // Whether this is the content of an object identifier.
+#[tactic(auto, unfolding(crate::specs::Elements::oid))]
 pub fn is_oid(content: &[u8]) -> bool
     ensures answer { result ≡ oid content.now }
     ensures rule { Decides result (ObjectIdentifier content.now) }
@@ -105,6 +103,7 @@ pub fn is_oid(content: &[u8]) -> bool
 }
 
 // Whether this is the content of a bit string.
+#[tactic(auto, unfolding(crate::specs::Elements::bit_string))]
 pub fn is_bit_string(content: &[u8]) -> bool
     ensures answer { result ≡ bit_string content.now }
     ensures rule { Decides result (BitString content.now) }

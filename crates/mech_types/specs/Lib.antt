@@ -2,3 +2,4 @@ pub mod Lists
 pub mod Reading
 pub mod Writing
 pub mod Views
+pub mod Listed

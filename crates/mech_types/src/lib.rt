@@ -1,11 +1,11 @@
 #![tactic(auto)]
 
-ghost use Rattle.std.specs.Prelude.{◌≡◌, ℕ, ◌<◌, ◌≤◌, List, length, is_ok, Ok};
+ghost use Rattle.std.specs.Prelude.{◌≡◌, ◌<◌, ◌≤◌, length, is_ok, IsOk};
 ghost use Rattle.der.specs.Writing.{Puts};
 ghost use Rattle.der.specs.Promises.{Exact, Writes};
-ghost use Rattle.mech_types.specs.Reading.{next_of, plain_next, read_mech_type_list};
+ghost use Rattle.mech_types.specs.Reading.{next_of, plain_next, oids_of, read_mech_type_list};
 ghost use Rattle.mech_types.specs.Lists.{oids as oidsBytes, mech_type_list, GoodList};
-ghost use Rattle.mech_types.specs.Views.{listed, list_read, splits, split, plain_oids};
+ghost use Rattle.mech_types.specs.Views.{plain_oids};
 ghost use Rattle.mech_types.specs.Writing.{add_oid, oids_len_from};
 ghost use Rattle.std.specs.Result.{result_ok};
 
@@ -23,31 +23,28 @@ pub fn next_oid(input: &[u8]) -> Result<(&[u8], &[u8]), Fault>
     Ok((content, rest))
 }
 
-// A list of mechanisms: object identifiers, one behind the other, as parts of the bytes that were read.
+// A list of mechanisms: legal object identifiers, one behind the other, as parts of the bytes that were read. It gives them in order.
 #[derive(Clone, Copy)]
 pub struct MechTypeList<'a> {
     oids: &'a [u8],
+    ghost legal: { IsOk (oids_of oids.now) },
 }
 
 impl<'a> MechTypeList<'a> {
+    ghost use Rattle.mech_types.specs.Listed.{listed, list_read, splits, split};
+
     // Reads a list that fills the input.
+    #[tactic(auto, using(crate::proofs::Listing::exact_at_list), unfolding(crate::specs::Reading::read_mech_type_list))]
     pub fn read(input: &'a [u8]) -> Result<MechTypeList<'a>, Fault>
         ensures answer { list_read result ≡ read_mech_type_list input.now }
         ensures test { is_ok result ≡ is_ok (read_mech_type_list input.now) }
         ensures exact { Exact GoodList mech_type_list input.now (list_read result) }
     {
-        Self::parse(input)
-    }
-
-    fn parse(input: &'a [u8]) -> Result<MechTypeList<'a>, Fault>
-        ensures answer { list_read result ≡ read_mech_type_list input.now }
-        ensures test { is_ok result ≡ is_ok (read_mech_type_list input.now) }
-    {
         let oids = only(input, 0x30)?;
+        // A loop over bytes: an iterator would first have to be known to be legal.
         let mut rest = oids;
         while !rest.is_empty() {
-            let (_, after) = next_oid(rest)?;
-            rest = after;
+            (_, rest) = next_oid(rest)?;
         }
         Ok(MechTypeList { oids })
     }
@@ -55,12 +52,10 @@ impl<'a> MechTypeList<'a> {
     // The first object identifier, and the list of the others.
     pub fn split_first(&self) -> Option<(&'a [u8], MechTypeList<'a>)>
         ensures answer { splits result ≡ result_ok (next_of self.now.oids.now) }
-        ensures walks { (os : List (List ℕ)) → listed self.now ≡ Ok os → split result ≡ Ok os }
+        ensures walks { split result ≡ listed self.now }
     {
-        match next_oid(self.oids) {
-            Ok((oid, oids)) => Some((oid, MechTypeList { oids })),
-            Err(_) => None,
-        }
+        let (oid, oids) = next_oid(self.oids).ok()?;
+        Some((oid, MechTypeList { oids }))
     }
 
     // Writes the list of these object identifiers to the front of `out`, and gives its length.
@@ -73,6 +68,23 @@ impl<'a> MechTypeList<'a> {
         }
         let at = put_header(out, 0, 0x30, body)?;
         put_oids(out, at, oids)
+    }
+}
+
+impl<'a> Iterator for MechTypeList<'a> {
+    ghost use Rattle.std.specs.Iterator.{YieldsFirstRef, item_count};
+    ghost use Rattle.mech_types.specs.Listed.{items};
+
+    type Item = &'a [u8];
+
+    ghost next_gives = { YieldsFirstRef items };
+
+    ghost remaining = { item_count items };
+
+    fn next(&mut self) -> Option<&'a [u8]> {
+        let (first, others) = self.split_first()?;
+        *self = others;
+        Some(first)
     }
 }
 

@@ -1,23 +1,20 @@
-use sspi::{ErrorKind, Fault, Layer, SecurityStatus};
+use sspi::{ErrorKind, Fault, Layer, SecurityStatus, UnknownNumber};
+use std::fmt::Debug;
 use std::process::Abort;
 
-// Each number gives the kind beside it, or none.
-fn kinds_at(rt: &impl Abort, rows: &[(u32, Option<ErrorKind>)]) {
-    for (n, kind) in rows {
-        assert_eq!(rt; ErrorKind::try_from(*n).ok(), *kind);
-    }
-}
-
-// Each number gives the status beside it, or none.
-fn statuses_at(rt: &impl Abort, rows: &[(u32, Option<SecurityStatus>)]) {
-    for (n, status) in rows {
-        assert_eq!(rt; SecurityStatus::try_from(*n).ok(), *status);
+// Each number gives the value beside it, or none.
+fn values_at<T>(rt: &impl Abort, rows: &[(u32, Option<T>)])
+where
+    T: TryFrom<u32, Error = UnknownNumber> + Copy + PartialEq + Debug,
+{
+    for (n, value) in rows {
+        assert_eq!(rt; T::try_from(*n).ok(), *value);
     }
 }
 
 #[test]
 fn kinds_by_number(rt: HostRuntime) {
-    kinds_at(
+    values_at(
         &rt,
         &[
             (0, Some(ErrorKind::Unknown)),
@@ -38,7 +35,7 @@ fn kinds_by_number(rt: HostRuntime) {
 
 #[test]
 fn numbers_of_no_kind(rt: HostRuntime) {
-    kinds_at(
+    values_at::<ErrorKind>(
         &rt,
         &[
             (1, None),
@@ -55,7 +52,7 @@ fn numbers_of_no_kind(rt: HostRuntime) {
 
 #[test]
 fn statuses_by_number(rt: HostRuntime) {
-    statuses_at(
+    values_at(
         &rt,
         &[
             (0, Some(SecurityStatus::Ok)),

@@ -11,25 +11,20 @@ const ILLEGAL: Fault = Fault {
 
 const NONE: Option<&[u8]> = None;
 
+// Each row is refused as an illegal token by this reader, which gives its refusal.
+fn refused_by<F>(rt: &impl Abort, refusal: F, rows: &[&[u8]])
+where
+    F: Fn(&[u8]) -> Option<Fault>,
+    requires { F.IsAlwaysCallable refusal }
+{
+    for row in rows {
+        assert_eq!(rt; refusal(row), Some(ILLEGAL));
+    }
+}
+
 // Each row is refused as an illegal NegTokenTarg.
 fn no_targ(rt: &impl Abort, rows: &[&[u8]]) {
-    for row in rows {
-        assert_eq!(rt; NegTokenTarg::read(row).err(), Some(ILLEGAL));
-    }
-}
-
-// Each row is refused as an illegal NegTokenInit.
-fn no_init(rt: &impl Abort, rows: &[&[u8]]) {
-    for row in rows {
-        assert_eq!(rt; NegTokenInit::read(row).err(), Some(ILLEGAL));
-    }
-}
-
-// Each row is refused as an illegal list of mechanisms.
-fn no_list(rt: &impl Abort, rows: &[&[u8]]) {
-    for row in rows {
-        assert_eq!(rt; MechTypeList::read(row).err(), Some(ILLEGAL));
-    }
+    refused_by(rt, |row| NegTokenTarg::read(row).err(), rows);
 }
 
 #[test]
@@ -168,8 +163,9 @@ fn fields_of_an_init(rt: HostRuntime) -> Result<(), Fail> {
 
 #[test]
 fn inits_that_are_not_legal(rt: HostRuntime) -> Result<(), Fail> {
-    no_init(
+    refused_by(
         &rt,
+        |row| NegTokenInit::read(row).err(),
         &[
             b"\x61\x07\x06\x01\x2b\xa0\x02\x30\x00",
             b"\x60\x04\xa0\x02\x30\x00",
@@ -197,8 +193,9 @@ fn lists(rt: HostRuntime) -> Result<(), Fail> {
     assert_eq!(rt; second, b"\x2b".as_slice());
     assert!(rt; rest.split_first().is_none());
     assert!(rt; MechTypeList::read(b"\x30\x00")?.split_first().is_none());
-    no_list(
+    refused_by(
         &rt,
+        |row| MechTypeList::read(row).err(),
         &[
             b"\x31\x00",
             b"\x30\x02\x05\x00",

@@ -57,18 +57,14 @@ fn targ(rt: &impl Print, number: u64, len: usize, token: NegTokenTarg<'_>) -> io
 
 // Prints a line for each mechanism of the list.
 fn mech_types(rt: &impl Print, element: &[u8]) -> io::Result<()> {
-    let Ok(mut list) = MechTypeList::read(element) else {
+    let Ok(list) = MechTypeList::read(element) else {
         return println!(rt; "mechTypes {}", Hex(element));
     };
     if list.split_first().is_none() {
         return println!(rt; "mechTypes empty");
     }
-    for _ in 0..element.len() {
-        let Some((mech, others)) = list.split_first() else {
-            break;
-        };
+    for mech in list {
         oid(rt, "mechTypes", mech)?;
-        list = others;
     }
     Ok(())
 }

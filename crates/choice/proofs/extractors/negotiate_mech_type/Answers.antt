@@ -1,16 +1,16 @@
-use Rattle.std.proofs.Common.{Err, ap, ◌∙◌}
-use Rattle.std.proofs.lemmas.Result.{err_from_is_err_and}
-use Rattle.choice.proofs.Chosen.{choice_means, choice_refused, choice_made}
+use Rattle.std.proofs.Common.{rules}
+use Rattle.mech_types.proofs.Listing.{listed-items}
+use Rattle.choice.specs.Choosing.{choice, chosen}
+use Rattle.choice.proofs.Chosen.{chosen_means}
 use Rattle.choice.proofs.extractors.negotiate_mech_type.Goals as goal
 
-pub returns-in_err-read : goal.returns-in_err-read
-returns-in_err-read c =
-    let p = err_from_is_err_and c.from_residual.result c.from_residual.ensures.1 in
-    let e = p.1 ∙ (ap Err p.2 ∙ choice_refused c.args.mech_types.now c.args.enabled c.args.running _ c.in_err-read.ensures.answer) in
-    record { answer = e; means = choice_means c.args.mech_types.now c.args.enabled c.args.running _ e }
+pub returns-in_err-list-clause-answer : goal.returns-in_err-list-clause-answer
+unfolding choice
+returns-in_err-list-clause-answer c = search rules
 
-pub returns : goal.returns
-returns c =
-    let e = choice_made c.args.mech_types.now c.args.enabled c.args.running c.choose.result _
-    c.in_ok-read.ensures.answer c.in_ok-read.ensures.test c.choose.ensures in
-    record { answer = e; means = choice_means c.args.mech_types.now c.args.enabled c.args.running c.choose.result e }
+pub returns-clause-answer : goal.returns-clause-answer
+unfolding choice chosen
+returns-clause-answer c = search (rules, listed-items)
+
+pub returns-clause-means : goal.returns-clause-means
+returns-clause-means c os h = chosen_means os c.args.enabled c.args.running _ (search (rules, listed-items))

@@ -1,21 +1,9 @@
-use Rattle.std.proofs.Common.{arith}
-use Rattle.mech_types.specs.Reading.{oids_of}
-use Rattle.choice.proofs.Placing.{left_shorter, walked_at}
+use Rattle.std.proofs.Common.{refl, inl, arith}
+use Rattle.mech_types.proofs.Listing.{items_short}
 use Rattle.choice.proofs.extractors.position.Goals as goal
 
-pub returns-then-eq : goal.returns-then-eq
-returns-then-eq c os h =
-    (walked_at c.args.oid.now (oids_of c.args.list.oids.now) (oids_of c.loop-first.rest.oids.now) (oids_of c.in-Some.others.oids.now)
-    c.in-Some.first.now c.loop-first.i _ _ c.eq.ensures c.if-eq.true c.in-Some.ensures.walks c.loop-first.invariant.1 os h).2
-
-pub loop-first-smaller : goal.loop-first-smaller
-loop-first-smaller c = left_shorter c.loop-first.rest.oids.now c.in-Some.first.now c.in-Some.others.oids.now c.in-Some.ensures.answer
-
-pub loop-first-preserved : goal.loop-first-preserved
-loop-first-preserved c =
-    let s = left_shorter c.loop-first.rest.oids.now c.in-Some.first.now c.in-Some.others.oids.now c.in-Some.ensures.answer in
-    let l = c.loop-first.invariant.0 in (
-      omega (arith, s, l),
-      walked_at c.args.oid.now (oids_of c.args.list.oids.now) (oids_of c.loop-first.rest.oids.now) (oids_of c.in-Some.others.oids.now)
-          c.in-Some.first.now c.loop-first.i _ _ c.eq.ensures c.if-eq.false c.in-Some.ensures.walks c.loop-first.invariant.1,
-    )
+pub loop-i-init : goal.loop-i-init
+loop-i-init c =
+    let s = items_short c.args.list in
+    let l = c.ranges.list in
+    rw (c.into_iter-i-iterator.ensures.into_iter_gives, c.enumerate-i-items.ensures.source, c.enumerate-i-items.ensures.count) ((tt, tt, inl (omega (arith, s, l.0))), tt, refl)

@@ -1,11 +1,11 @@
-use Rattle.std.proofs.Common.{◌+◌, ◌≤◌, length}
-use Rattle.mech_types.specs.Reading.{oids_of}
-use Rattle.choice.proofs.Placing.{Walked}
+use Rattle.std.proofs.Common.{◌≡◌}
+use Rattle.std.specs.Iterator.Adapters.{enumerate_source, enumerate_count}
+use Rattle.mech_types.specs.Listed.{items}
+use Rattle.choice.specs.Choosing.{place_from, place_of}
 use Rattle.choice.proofs.extractors.position.Given as goal
 
-abbrev pub invariant-loop-first : goal.invariant-loop-first
-invariant-loop-first l =
-    (l.i + length l.rest.oids.now ≤ length l.list.oids.now) × Walked l.oid (oids_of l.list.oids.now) (oids_of l.rest.oids.now) l.i
-
-abbrev pub decreases-loop-first : goal.decreases-loop-first
-decreases-loop-first l = length l.rest.oids.now
+abbrev pub invariant-loop-i : goal.invariant-loop-i
+invariant-loop-i l =
+    (goal.iterator-loop-i).can_next l.i-iterator
+    × (goal.iterator-loop-i).is_finite l.i-iterator
+    × (place_from (enumerate_count l.i-iterator) l.oid (items (enumerate_source l.i-iterator)) ≡ place_of l.oid (items l.list))

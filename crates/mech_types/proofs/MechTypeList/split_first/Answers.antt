@@ -1,18 +1,20 @@
-use Rattle.std.proofs.Common.{sym, ap, ◌∙◌}
+use Rattle.std.proofs.Common.{◌≡◌, Some, None, sym, rules}
 use Rattle.std.specs.Result.{result_ok}
-use Rattle.mech_types.proofs.Listing.{oids_more, oids_end}
+use Rattle.mech_types.specs.Reading.{next_of}
+use Rattle.mech_types.proofs.Listing.{next_some, oids_more, oids_end, legal_more}
 use Rattle.mech_types.proofs.MechTypeList.split_first.Goals as goal
 
-pub returns-in-Ok : goal.returns-in-Ok
-returns-in-Ok c =
-    record {
-      answer = ap result_ok c.in-Ok.ensures;
-      walks = λ os h. sym (oids_more c.args.self.now.oids.now (c.in-Ok.oid.now, c.in-Ok.oids.now) (sym c.in-Ok.ensures)) ∙ h;
-    }
+pub returns-in_err-oid-clause-walks : goal.returns-in_err-oid-clause-walks
+returns-in_err-oid-clause-walks c =
+    let h : None ≡ result_ok (next_of c.args.self.now.oids.now) = search rules in
+    rw c.from_residual.ensures (oids_end c.args.self.now.oids.now h c.args.self.now.legal)
 
-pub returns-in-Err : goal.returns-in-Err
-returns-in-Err c =
-    record {
-      answer = ap result_ok c.in-Err.ensures;
-      walks = λ os h. oids_end c.args.self.now.oids.now _ (sym c.in-Err.ensures) os h;
-    }
+pub invariant_of-result : goal.invariant_of-result
+invariant_of-result c =
+    let h : Some (c.in_ok-oid.oid.now, c.in_ok-oid.oids.now) ≡ result_ok (next_of c.args.self.now.oids.now) = search rules in
+    record { legal = legal_more c.args.self.now.oids.now _ (next_some c.args.self.now.oids.now _ h) c.args.self.now.legal }
+
+pub returns-clause-walks : goal.returns-clause-walks
+returns-clause-walks c =
+    let h : Some (c.in_ok-oid.oid.now, c.in_ok-oid.oids.now) ≡ result_ok (next_of c.args.self.now.oids.now) = search rules in
+    sym (oids_more c.args.self.now.oids.now _ (next_some c.args.self.now.oids.now _ h))
