@@ -6,7 +6,7 @@ const INVALID: Fault = Fault {
     layer: Layer::Negotiation,
 };
 
-// Each row is refused as no book, or as no account book, by what reads it; the refusal is what `refusal` gives.
+// Each row is refused as invalid: `refusal` reads it, and gives the refusal if there is one.
 pub fn refused<F: Fn(&[u8]) -> Option<Fault>>(rt: &impl Abort, refusal: F, rows: &[&[u8]])
     requires { F.IsAlwaysCallable refusal }
 {

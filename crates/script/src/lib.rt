@@ -80,6 +80,7 @@ fn play(entry: &[u8], work: &mut [u8]) -> Result<(SecurityStatus, usize), Fault>
 {
     let (status, token) = tell(entry)?;
     let n = token.len();
+    // The room is tested here, since nothing is known of what is written through `get_mut(..n)`.
     if work.len() < n {
         return Err(Layer::Mechanism.fault(ErrorKind::BufferTooSmall));
     }
