@@ -1,15 +1,16 @@
 -- Writing a list of object identifiers: the loops over them, and the computed length.
 use Rattle.std.proofs.Common.{◌≡◌, ℕ, ◌+◌, ◌<◌, ◌≤◌, true, ltb, List, [], ◌∷◌, ◌++◌, length, get_or, take, drop, Ok, Err, Result, sym, refl, ap, ◌∙◌, subst, add-zero, arith, length-append, Bor}
-use Rattle.std.proofs.lemmas.List.{append-nil, append_assoc, map-append, take_more, take-append-drop, take_all, at_drop_more, at_drop_all}
+use Rattle.std.proofs.lemmas.List.{append-nil, append_assoc, map-append, take_more, take-append-drop, at_drop_more, at_drop_all}
 use Rattle.std.proofs.lemmas.Bool.{ltb-false, le-ltb, and_parts, and_from, cond-true, cond-false}
 use Rattle.sspi.specs.declared.fault.Fault.{Fault}
 use Rattle.der.specs.Elements.{element, oid}
 use Rattle.der.specs.Reading.{and_then}
-use Rattle.der.specs.Writing.{end_if, put_if, element_len, invalid, Puts}
+use Rattle.der.specs.declared.writer.Writer.{Writer}
+use Rattle.der.specs.Writing.{element_len, invalid, Puts, Adds}
 use Rattle.der.proofs.Promised.{only_element_len}
 use Rattle.der.proofs.Ways.{goes_on, err_ok, passed, let_through, Only, only_at, only_then, only_cond}
 use Rattle.der.proofs.Taking.{both, length-element}
-use Rattle.der.proofs.Overs.{element_size, element_len_lem, puts_if, puts_none, puts_puts, puts_refused}
+use Rattle.der.proofs.Adding.{element_size, element_len_lem, adds, adds_then, adds_refused}
 use Rattle.mech_types.specs.Lists.{oids, mech_type_list, all_oids, GoodList}
 use Rattle.mech_types.specs.Views.{plain_oids}
 use Rattle.mech_types.specs.Writing.{add_oid, oids_len_from}
@@ -112,38 +113,19 @@ row_split rs i d l =
 row_fits : (rs : Refs) (i : ℕ) (d : Bor (List ℕ)) → i < length rs → length (oids (plain_oids rs)) < 65536 → length (get_or rs i d).now < 65536
 row_fits rs i d l s =
     let e = ap length (row_split rs i d l) in
-    let a = length-append (oids (plain_oids (take i rs))) (element 0x06 (get_or rs i d).now ++ oids (plain_oids (drop (i + 1) rs))) in
-    let b = length-append (element 0x06 (get_or rs i d).now) (oids (plain_oids (drop (i + 1) rs))) in
     let n = length-element 0x06 (get_or rs i d).now in
-    omega arith
+    omega (arith, simp length-append at e)
 
-pub row_puts : (rs : Refs) (i at : ℕ) (d : Bor (List ℕ)) (r : Result ℕ Fault) (out after : List ℕ) → i < length rs → length (oids (plain_oids rs)) < 65536
-    → r ≡ end_if (length (get_or rs i d).now) out at (element 0x06 (get_or rs i d).now) → after ≡ put_if (length (get_or rs i d).now) out at (element 0x06 (get_or rs i d).now)
-    → Puts r out at (element 0x06 (get_or rs i d).now) after
-row_puts rs i at d r out after l s a h = puts_if (length (get_or rs i d).now) at r out (element 0x06 (get_or rs i d).now) after (row_fits rs i d l s) a h
+-- one more is written
+pub row_again : (rs : Refs) (i : ℕ) (d : Bor (List ℕ)) {w m v : Writer} → i < length rs → length (oids (plain_oids rs)) < 65536
+    → Adds (oids (plain_oids (take i rs))) w m (Ok tt) → Puts (length (get_or rs i d).now < 65536) (element 0x06 (get_or rs i d).now) m v (Ok tt)
+    → Adds (oids (plain_oids (take (i + 1) rs))) w v (Ok tt)
+row_again rs i d l s p q = rw (row_more rs i d l) (adds_then p (adds (row_fits rs i d l s) q))
 
-pub row_again : (rs : Refs) (i start at next : ℕ) (d : Bor (List ℕ)) (out mid after : List ℕ) → i < length rs
-    → Puts (Ok at) out start (oids (plain_oids (take i rs))) mid → Puts (Ok next) mid at (element 0x06 (get_or rs i d).now) after
-    → Puts (Ok next) out start (oids (plain_oids (take (i + 1) rs))) after
-row_again rs i start at next d out mid after l p q =
-    let P : List ℕ → Type 0 = λ v. Puts (Ok next) out start v after in
-    subst P (sym (row_more rs i d l)) (puts_puts (Ok next) out (oids (plain_oids (take i rs))) mid (element 0x06 (get_or rs i d).now) after start at p q)
-
-pub row_refused : (rs : Refs) (i start at : ℕ) (d : Bor (List ℕ)) (e : Fault) (r : Result ℕ Fault) (out mid after : List ℕ) → i < length rs
-    → Puts (Ok at) out start (oids (plain_oids (take i rs))) mid → Puts (Err e) mid at (element 0x06 (get_or rs i d).now) after
-    → Puts r out start (oids (plain_oids rs)) after
-row_refused rs i start at d e r out mid after l p q =
-    let P : List ℕ → Type 0 = λ v. Puts r out start v after in
-    subst P (sym (row_split rs i d l))
-    (puts_puts r out (oids (plain_oids (take i rs))) mid (element 0x06 (get_or rs i d).now ++ oids (plain_oids (drop (i + 1) rs))) after start at p
-    (puts_refused e r mid (element 0x06 (get_or rs i d).now) after (oids (plain_oids (drop (i + 1) rs))) after at q))
-
-pub row_all : (rs : Refs) (i start at : ℕ) (out after : List ℕ) → length rs ≤ i → Puts (Ok at) out start (oids (plain_oids (take i rs))) after → Puts (Ok at) out start (oids (plain_oids rs)) after
-row_all rs i start at out after l p = subst (λ (v : Refs). Puts (Ok at) out start (oids (plain_oids v)) after) (take_all i rs l) p
-
-pub row_none : (out : List ℕ) (start : ℕ) → Puts (Ok start) out start (oids []) out
-unfolding oids
-row_none out start = puts_none out start
+pub row_refused : (rs : Refs) (i : ℕ) (d : Bor (List ℕ)) {w m v : Writer} {e : Fault} {r : Result (Unit {0}) Fault} → i < length rs → length (oids (plain_oids rs)) < 65536
+    → Adds (oids (plain_oids (take i rs))) w m (Ok tt) → Puts (length (get_or rs i d).now < 65536) (element 0x06 (get_or rs i d).now) m v (Err e)
+    → Adds (oids (plain_oids rs)) w v r
+row_refused rs i d l s p q = rw (row_split rs i d l) (adds_then p (adds_refused _ (adds (row_fits rs i d l s) q)))
 
 -- the whole list
 pub record ListSizes (os : List (List ℕ)) (n : ℕ) : Type 0 where

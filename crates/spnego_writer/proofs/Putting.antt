@@ -1,30 +1,29 @@
 -- Writing parts and fields, one behind the other, and the lengths that are computed before.
-use Rattle.std.proofs.Common.{◌≡◌, ℕ, ◌+◌, ◌<◌, List, length, Some, None, Ok, Err, Option, Result, sym, refl, ap, ◌∙◌, subst, arith, length-append, Bor}
+use Rattle.std.proofs.Common.{◌≡◌, ℕ, ◌+◌, ◌<◌, List, length, MatchResult, Some, None, Ok, Err, Option, Result, sym, refl, ap, ◌∙◌, subst, arith, length-append, Bor}
 use Rattle.std.proofs.lemmas.Bool.{cond-true}
 use Rattle.sspi.specs.declared.fault.Fault.{Fault}
-use Rattle.der.specs.Elements.{header, element, oid}
+use Rattle.der.specs.Elements.{element, oid}
 use Rattle.der.specs.Reading.{and_then}
-use Rattle.der.specs.Writing.{end_if, put_if, element_len, invalid, Puts}
+use Rattle.der.specs.declared.writer.Writer.{Writer}
+use Rattle.der.specs.Writing.{element_len, invalid, Puts, Adds}
 use Rattle.der.proofs.Promised.{only_element_len}
-use Rattle.der.proofs.Ways.{goes_on, err_ok, let_through, Only, only_at, only_then, only_cond}
+use Rattle.der.proofs.Ways.{goes_on, err_ok, same_ok, let_through, Only, only_at, only_then, only_cond}
 use Rattle.der.proofs.Taking.{both, length-element}
-use Rattle.der.proofs.Overs.{element_size, element_len_lem, header_bound, puts_if, puts_header, puts_none}
+use Rattle.der.proofs.Adding.{element_size, element_len_lem, header_bound, adds}
 use Rattle.spnego.specs.declared.part.Kind.{Kind}
 use Rattle.spnego.specs.declared.part.Kind.TheVariants.{Element, MechTypes, Oid, BitString, OctetString}
 use Rattle.spnego.specs.Tokens.{inside, field, LegalField, Fields, four_fields, sequence, LegalFields, Targ, targ_fields, targ_bytes, TargWellFormed, Init, init_fields, init_content, init_bytes, InitWellFormed}
 use Rattle.spnego.specs.Reading.{seen, legal_test}
 use Rattle.spnego.proofs.Inside.{legal_passes, passes_legal}
 use Rattle.spnego.proofs.Fourfold.{octets_legal}
+use Rattle.spnego_writer.specs.declared.lengths.Lengths.{Lengths}
+use Rattle.spnego_writer.specs.Views.{plain_lens, lens_read}
 use Rattle.spnego_writer.specs.Writing.{inside_len, field_len, fields_len, sequence_len, Lens, targ_lens, init_lens}
 
 -- a part that stands inside an element of its own
-pub puts_wrapped : (k : Kind) (t at : ℕ) (r : Result ℕ Fault) (out part after : List ℕ) → inside k part ≡ element t part → length (inside k part) < 65536
-    → r ≡ end_if (length part) out at (element t part) → after ≡ put_if (length part) out at (element t part) → Puts r out at (inside k part) after
-puts_wrapped k t at r out part after e l a h =
-    let n = length-element t part in
-    let m : length (inside k part) ≡ length (element t part) = ap length e in
-    let P : List ℕ → Type 0 = λ v. Puts r out at v after in
-    subst P (sym e) (puts_if (length part) at r out (element t part) after (omega arith) a h)
+pub adds_inside : (k : Kind) (t : ℕ) (part : List ℕ) {w v : Writer} {r : Result (Unit {0}) Fault} → inside k part ≡ element t part → length (inside k part) < 65536
+    → Puts (length part < 65536) (element t part) w v r → Adds (inside k part) w v r
+adds_inside k t part e l p = let n = length-element t part in rw e (adds (omega (arith, ap length e)) p)
 
 -- the length of what stands inside a field
 wrapped_len : (t : ℕ) (part : List ℕ) → length (element t part) < 65536 → element_len (length part) ≡ Ok (length (element t part))
@@ -41,22 +40,21 @@ inside_len_lem OctetString part l = wrapped_len 0x04 part l
 pub inside_fits : (t : ℕ) (k : Kind) (part : List ℕ) → length (element t (inside k part)) < 65536 → length (inside k part) < 65536
 inside_fits t k part l = let n = length-element t (inside k part) in omega arith
 
--- the header before what stands inside: its length is the one computed, and it is not refused
-pub puts_before : (t at n : ℕ) (k : Kind) (r : Result ℕ Fault) (out part after : List ℕ) → length (element t (inside k part)) < 65536 → Ok n ≡ inside_len k (length part)
-    → r ≡ end_if n out at (header t n) → after ≡ put_if n out at (header t n) → Puts r out at (header t (length (inside k part))) after
-puts_before t at n k r out part after l e a h =
+-- the header before what stands inside has its length, which is the one computed
+pub inside_is : (t : ℕ) (k : Kind) (part : List ℕ) (n : ℕ) → length (element t (inside k part)) < 65536 → Ok n ≡ inside_len k (length part)
+    → (n ≡ length (inside k part)) × (n < 65536)
+inside_is t k part n l e =
     let f = inside_fits t k part l in
-    let q = inside_len_lem k part f in
-    let m : n ≡ length (inside k part) = cc in
-    puts_header t at n r out (inside k part) after m (omega arith) a h
+    let m = same_ok n (length (inside k part)) (e ∙ inside_len_lem k part f) in
+    (m, omega arith)
+
+-- a field that is there
+pub field_short : (t : ℕ) (k : Kind) (o : Option (Bor (List ℕ))) (p : Bor (List ℕ)) → o ≡ Some p → length (field t k (seen o)) < 65536
+    → length (element t (inside k p.now)) < 65536
+field_short t k o p e l = rw e at l
 
 pub inside_not_refused : (t : ℕ) (k : Kind) (part : List ℕ) (e : Fault) → length (element t (inside k part)) < 65536 → Err e ≡ inside_len k (length part) → ⊥
 inside_not_refused t k part e l r = err_ok e (length (inside k part)) (r ∙ inside_len_lem k part (inside_fits t k part l))
-
-pub puts_absent : (t at : ℕ) (k : Kind) (out : List ℕ) (o : Option (Bor (List ℕ))) → o ≡ None → Puts (Ok at) out at (field t k (seen o)) out
-puts_absent t at k out o e =
-    let P : Option (Bor (List ℕ)) → Type 0 = λ v. Puts (Ok at) out at (field t k (seen v)) out in
-    subst P (sym e) (puts_none out at)
 
 -- the computed lengths are those of the writing, and are given only for legal parts
 inside_size : (k : Kind) (m : ℕ) (part : List ℕ) → inside_len k (length part) ≡ Ok m → length (inside k part) ≡ m
@@ -247,3 +245,15 @@ init_bounds t g =
     let k = length-element 0xA0 (sequence MechTypes BitString (init_fields t)) in
     let l = g.short in
     (omega arith, omega arith)
+
+-- what the lengths that were computed say
+abbrev Sized : Type 0 → List ℕ → Result Lengths Fault → Type 0
+Sized Good bytes r = MatchResult r (λ n. Good × (n.token ≡ length bytes)) (λ e. (Good → ⊥) × (e ≡ invalid))
+
+pub targ_sized : (t : Targ) (r : Result Lengths Fault) → lens_read r ≡ targ_lens t → Sized (TargWellFormed t) (targ_bytes t) r
+targ_sized t (Ok n) r = let z = targ_sizes t (plain_lens n) (sym r) in (z.good, z.token)
+targ_sized t (Err e) r = targ_refused t e (sym r)
+
+pub init_sized : (t : Init) (r : Result Lengths Fault) → lens_read r ≡ init_lens t → Sized (InitWellFormed t) (init_bytes t) r
+init_sized t (Ok n) r = let z = init_sizes t (plain_lens n) (sym r) in (z.good, z.token)
+init_sized t (Err e) r = init_refused t e (sym r)

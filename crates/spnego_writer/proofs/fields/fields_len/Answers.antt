@@ -9,8 +9,8 @@ sum_fits : (c : goal.In_ok-d) → c.in_ok-a.a + c.in_ok-b.b + c.in_ok-c.c + c.in
 sum_fits c =
     omega (
       arith,
-      field_bound c.args.first c.in_ok-a.a (seen c.args.fields.first) c.in_ok-a.ensures,
-      field_bound c.args.second c.in_ok-b.b (seen c.args.fields.second) c.in_ok-b.ensures,
+      field_bound c.args.layout.first c.in_ok-a.a (seen c.args.fields.first) c.in_ok-a.ensures,
+      field_bound c.args.layout.second c.in_ok-b.b (seen c.args.fields.second) c.in_ok-b.ensures,
       field_bound OctetString c.in_ok-c.c (seen c.args.fields.third) c.in_ok-c.ensures,
       field_bound OctetString c.in_ok-d.d (seen c.args.fields.fourth) c.in_ok-d.ensures,
     )
