@@ -2,5 +2,6 @@ pub mod Ways
 pub mod Heads
 pub mod Rules
 pub mod Adding
+pub mod Measures
 pub mod Taking
 pub mod Promised

@@ -49,7 +49,3 @@ writes_made {bytes = bytes} {w = w} {v = v} out after n g l s t p e k =
 -- one that had room is not refused
 pub not_refused : {bytes : List ℕ} {w v : Writer} {e : Fault} (out : List ℕ) → length bytes ≤ length out → room w ≡ out → Adds bytes w v (Err e) → ⊥
 not_refused {e = e} out l t p = err_ok e tt (p.made (omega (arith, ap length t))).0
-
--- every refusal of a length is the same
-pub only_element_len : (n : ℕ) → Only invalid (element_len n)
-only_element_len n = only_cond invalid (ltb n 65536) _ _ tt refl

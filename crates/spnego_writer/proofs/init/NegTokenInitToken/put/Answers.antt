@@ -4,7 +4,7 @@ use Rattle.spnego.specs.declared.part.Kind.TheVariants.{MechTypes, BitString}
 use Rattle.spnego.specs.Tokens.{four_fields, sequence, init_fields, init_content, init_bytes}
 use Rattle.spnego.specs.Views.{plain_init}
 use Rattle.spnego_writer.specs.Views.{plain_lens}
-use Rattle.spnego_writer.proofs.Putting.{init_sizes, init_bounds}
+use Rattle.spnego_writer.proofs.Putting.{init_sizes, init_fits}
 use Rattle.spnego_writer.proofs.init.NegTokenInitToken.put.Goals as goal
 
 pub returns-in_err-put_header : goal.returns-in_err-put_header
@@ -17,28 +17,28 @@ pub returns-in_err-put_element : goal.returns-in_err-put_element
 unfolding init_bytes init_content
 returns-in_err-put_element c =
     let z = init_sizes (plain_init c.args.self.now) (plain_lens c.args.n) c.requires in
-    let b = init_bounds (plain_init c.args.self.now) z.good in
-    adds_element 0x60 z.content (omega (arith, z.content, z.good.short)) c.in_ok-put_header.ensures (adds_refused _ (adds b.0 c.in_err-put_element.ensures))
+    let b = init_fits (plain_init c.args.self.now) z.good in
+    adds_element 0x60 z.content (omega (arith, z.content, z.good.short)) c.in_ok-put_header.ensures (adds_refused _ (adds b.this_mech c.in_err-put_element.ensures))
 
 pub returns-in_err-put_header-2 : goal.returns-in_err-put_header-2
 unfolding init_bytes init_content
 returns-in_err-put_header-2 c =
     let z = init_sizes (plain_init c.args.self.now) (plain_lens c.args.n) c.requires in
-    let b = init_bounds (plain_init c.args.self.now) z.good in
+    let b = init_fits (plain_init c.args.self.now) z.good in
     adds_element 0x60 z.content (omega (arith, z.content, z.good.short)) c.in_ok-put_header.ensures
-    (adds_then (adds b.0 c.in_ok-put_element.ensures)
-    (refused_element 0xA0 (sequence MechTypes BitString (init_fields (plain_init c.args.self.now))) z.sequence (omega (arith, z.sequence, b.1)) c.in_err-put_header-2.ensures))
+    (adds_then (adds b.this_mech c.in_ok-put_element.ensures)
+    (refused_element 0xA0 (sequence MechTypes BitString (init_fields (plain_init c.args.self.now))) z.sequence (omega (arith, z.sequence, b.sequence)) c.in_err-put_header-2.ensures))
 
 pub put_sequence-requires : goal.put_sequence-requires
 put_sequence-requires c =
     let z = init_sizes (plain_init c.args.self.now) (plain_lens c.args.n) c.requires in
-    (z.body ∙ ap (λ f. length (four_fields MechTypes BitString f)) (sym c.from.ensures), z.body_fits)
+    (z.body ∙ ap (λ f. length (four_fields MechTypes BitString f)) (sym c.from.ensures), omega (arith, z.body, (init_fits (plain_init c.args.self.now) z.good).body))
 
 pub returns : goal.returns
 unfolding init_bytes init_content
 returns c =
     let z = init_sizes (plain_init c.args.self.now) (plain_lens c.args.n) c.requires in
-    let b = init_bounds (plain_init c.args.self.now) z.good in
+    let b = init_fits (plain_init c.args.self.now) z.good in
     adds_element 0x60 z.content (omega (arith, z.content, z.good.short)) c.in_ok-put_header.ensures
-    (adds_then (adds b.0 c.in_ok-put_element.ensures)
-    (adds_element 0xA0 z.sequence (omega (arith, z.sequence, b.1)) c.in_ok-put_header-2.ensures (rw c.from.ensures at c.put_sequence.ensures)))
+    (adds_then (adds b.this_mech c.in_ok-put_element.ensures)
+    (adds_element 0xA0 z.sequence (omega (arith, z.sequence, b.sequence)) c.in_ok-put_header-2.ensures (rw c.from.ensures at c.put_sequence.ensures)))

@@ -4,7 +4,7 @@ use Rattle.spnego.specs.declared.part.Kind.TheVariants.{Element, Oid}
 use Rattle.spnego.specs.Tokens.{four_fields, sequence, targ_fields, targ_bytes}
 use Rattle.spnego.specs.Views.{plain_targ}
 use Rattle.spnego_writer.specs.Views.{plain_lens}
-use Rattle.spnego_writer.proofs.Putting.{targ_sizes}
+use Rattle.spnego_writer.proofs.Putting.{targ_sizes, targ_fits}
 use Rattle.spnego_writer.proofs.targ.NegTokenTargToken.put.Goals as goal
 
 pub returns-in_err-put_header : goal.returns-in_err-put_header
@@ -16,7 +16,7 @@ returns-in_err-put_header c =
 pub put_sequence-requires : goal.put_sequence-requires
 put_sequence-requires c =
     let z = targ_sizes (plain_targ c.args.self.now) (plain_lens c.args.n) c.requires in
-    (z.body ∙ ap (λ f. length (four_fields Element Oid f)) (sym c.from.ensures), z.body_fits)
+    (z.body ∙ ap (λ f. length (four_fields Element Oid f)) (sym c.from.ensures), omega (arith, z.body, targ_fits (plain_targ c.args.self.now) z.good))
 
 pub returns : goal.returns
 unfolding targ_bytes
