@@ -1,12 +1,12 @@
 -- How the promises of a reader and a writer follow from what is shown of them.
-use Rattle.std.proofs.Common.{◌≡◌, ℕ, ◌<◌, ◌≤◌, ltb, List, [], length, Ok, Err, Result, sym, refl, ap, ◌∙◌, arith}
+use Rattle.std.proofs.Common.{◌≡◌, ℕ, ◌<◌, ◌≤◌, List, [], length, Ok, Err, Result, sym, refl, ap, ◌∙◌, arith}
 use Rattle.sspi.specs.declared.fault.Fault.{Fault}
 use Rattle.der.specs.Reading.{illegal}
 use Rattle.std.proofs.lemmas.List.{take-append-drop}
 use Rattle.der.specs.declared.writer.Writer.{Writer}
-use Rattle.der.specs.Writing.{written, room, element_len, invalid, too_small, Adds}
+use Rattle.der.specs.Writing.{written, room, invalid, too_small, Adds}
 use Rattle.der.specs.Promises.{Exact, Writes, ReadBack, OneWriting, WrittenAgain}
-use Rattle.der.proofs.Ways.{err_ok, same_ok, Only, only_at, only_cond}
+use Rattle.der.proofs.Ways.{err_ok, same_ok, Only, only_at}
 
 -- a reader that undoes the writing and accepts nothing else is exact
 pub exact_from : {X : Type 0} {Good : X → Type 0} {bytes : X → List ℕ} (read : List ℕ → Result X Fault) → ((x : X) → Good x → read (bytes x) ≡ Ok x)

@@ -1,6 +1,7 @@
 ghost use Rattle.std.specs.Prelude.{◌≡◌};
 ghost use Rattle.der.specs.Reading.{plain_part, plain_optional};
 ghost use Rattle.spnego.specs.Reading.{legal_test, part_of, inner_of, field_of};
+ghost use Rattle.spnego.specs.Tokens.{wrapper};
 
 use der::{ILLEGAL, is_bit_string, is_element, is_oid, only, optional};
 use mech_types::MechTypeList;
@@ -17,15 +18,25 @@ pub enum Kind {
 }
 
 impl Kind {
-    // Takes the element off around a part that is not an element itself.
+    // The tag of the element around a part of this kind, if the part is not an element itself.
+    pub fn wrapper(self) -> Option<u8>
+        ensures { result ≡ wrapper self }
+    {
+        match self {
+            Kind::Element | Kind::MechTypes => None,
+            Kind::Oid => Some(0x06),
+            Kind::BitString => Some(0x03),
+            Kind::OctetString => Some(0x04),
+        }
+    }
+
+    // Takes that element off.
     fn part(self, content: &[u8]) -> Result<&[u8], Fault>
         ensures { plain_part result ≡ part_of self content.now }
     {
-        match self {
-            Kind::Element | Kind::MechTypes => Ok(content),
-            Kind::Oid => only(content, 0x06),
-            Kind::BitString => only(content, 0x03),
-            Kind::OctetString => only(content, 0x04),
+        match self.wrapper() {
+            None => Ok(content),
+            Some(tag) => only(content, tag),
         }
     }
 

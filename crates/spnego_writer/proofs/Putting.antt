@@ -1,5 +1,5 @@
 -- Writing parts and fields, one behind the other, and the lengths that are computed before.
-use Rattle.std.proofs.Common.{◌≡◌, ℕ, ◌+◌, ◌<◌, true, List, length, MatchResult, Some, None, Ok, Err, Option, Result, sym, refl, ap, ◌∙◌, subst, inl, arith, length-append, Bor}
+use Rattle.std.proofs.Common.{◌≡◌, ℕ, ◌+◌, ◌<◌, List, length, MatchResult, Some, None, Ok, Err, Option, Result, sym, refl, ap, ◌∙◌, subst, inl, arith, length-append, Bor}
 use Rattle.std.specs.Option.{option_map}
 use Rattle.sspi.specs.declared.fault.Fault.{Fault}
 use Rattle.der.specs.Elements.{element, Short, oid}
@@ -12,29 +12,26 @@ use Rattle.der.proofs.Adding.{element_len_lem, element_bound, adds}
 use Rattle.der.proofs.Measures.{Measures, measured, unmeasured, measures_as, measures_done, measures_then, measures_if, element_measures}
 use Rattle.spnego.specs.declared.part.Kind.{Kind}
 use Rattle.spnego.specs.declared.part.Kind.TheVariants.{Element, MechTypes, Oid, BitString, OctetString}
-use Rattle.spnego.specs.Tokens.{inside, field, LegalField, Fields, four_fields, sequence, LegalFields, Targ, targ_fields, targ_bytes, TargWellFormed, Init, init_fields, init_content, init_bytes, InitWellFormed}
+use Rattle.spnego.specs.Tokens.{wrapper, wrapped, inside, field, LegalField, Fields, four_fields, sequence, LegalFields, Targ, targ_fields, targ_bytes, TargWellFormed, Init, init_fields, init_content, init_bytes, InitWellFormed}
 use Rattle.spnego.specs.Reading.{seen, legal_test}
 use Rattle.spnego.proofs.Inside.{legal_passes, passes_legal, short_field}
 use Rattle.spnego.proofs.Fourfold.{octets_legal}
 use Rattle.spnego_writer.specs.declared.lengths.Lengths.{Lengths}
 use Rattle.spnego_writer.specs.Views.{plain_lens, lens_read}
-use Rattle.spnego_writer.specs.Writing.{inside_len, field_len, fields_len, sequence_len, Lens, targ_lens, init_lens}
+use Rattle.spnego_writer.specs.Writing.{wrapped_len, inside_len, field_len, sequence_len, Lens, targ_lens, init_lens}
 
 -- a part that stands inside an element of its own
-pub adds_inside : (k : Kind) (t : ℕ) (part : List ℕ) {w v : Writer} {r : Result (Unit {0}) Fault} → inside k part ≡ element t part → length (inside k part) < 65536
+pub adds_inside : (k : Kind) (t : ℕ) (part : List ℕ) {w v : Writer} {r : Result (Unit {0}) Fault} → wrapper k ≡ Some t → length (inside k part) < 65536
     → Puts (length part < 65536) (element t part) w v r → Adds (inside k part) w v r
-adds_inside k t part e l p = let n = length-element t part in rw e (adds (omega (arith, ap length e)) p)
+adds_inside k t part h l p =
+    let n = length-element t part in
+    let e : inside k part ≡ element t part = ap (λ o. wrapped o part) h in
+    rw h (adds (omega (arith, ap length e)) p)
 
 -- the length of what stands inside a field
-wrapped_len : (t : ℕ) (part : List ℕ) → length (element t part) < 65536 → element_len (length part) ≡ Ok (length (element t part))
-wrapped_len t part l = let n = length-element t part in element_len_lem t part (omega arith)
-
-inside_len_lem : (k : Kind) (part : List ℕ) → length (inside k part) < 65536 → inside_len k (length part) ≡ Ok (length (inside k part))
-inside_len_lem Element part l = refl
-inside_len_lem MechTypes part l = refl
-inside_len_lem Oid part l = wrapped_len 0x06 part l
-inside_len_lem BitString part l = wrapped_len 0x03 part l
-inside_len_lem OctetString part l = wrapped_len 0x04 part l
+wrapped_len_lem : (o : Option ℕ) (part : List ℕ) → length (wrapped o part) < 65536 → wrapped_len o (length part) ≡ Ok (length (wrapped o part))
+wrapped_len_lem None part l = refl
+wrapped_len_lem (Some t) part l = let n = length-element t part in element_len_lem t part (omega arith)
 
 -- a field that can be written holds a part that can
 pub inside_fits : (t : ℕ) (k : Kind) (part : List ℕ) → length (element t (inside k part)) < 65536 → length (inside k part) < 65536
@@ -45,11 +42,11 @@ pub inside_is : (t : ℕ) (k : Kind) (part : List ℕ) (n : ℕ) → length (ele
     → (n ≡ length (inside k part)) × (n < 65536)
 inside_is t k part n l e =
     let f = inside_fits t k part l in
-    let m = same_ok n (length (inside k part)) (e ∙ inside_len_lem k part f) in
+    let m = same_ok n (length (inside k part)) (e ∙ wrapped_len_lem (wrapper k) part f) in
     (m, omega arith)
 
 pub inside_not_refused : (t : ℕ) (k : Kind) (part : List ℕ) (e : Fault) → length (element t (inside k part)) < 65536 → Err e ≡ inside_len k (length part) → ⊥
-inside_not_refused t k part e l r = err_ok e (length (inside k part)) (r ∙ inside_len_lem k part (inside_fits t k part l))
+inside_not_refused t k part e l r = err_ok e (length (inside k part)) (r ∙ wrapped_len_lem (wrapper k) part (inside_fits t k part l))
 
 -- a field that is there
 pub field_short : (t : ℕ) (k : Kind) (o : Option (Bor (List ℕ))) (p : Bor (List ℕ)) → o ≡ Some p → length (field t k (seen o)) < 65536
@@ -57,19 +54,12 @@ pub field_short : (t : ℕ) (k : Kind) (o : Option (Bor (List ℕ))) (p : Bor (L
 field_short t k o p e l = rw e at l
 
 -- The computed lengths are those of the writing, and are given just for legal parts that can be written.
-wrapped_measures : (t u : ℕ) (part : List ℕ)
-    → Measures (length (element u part) < 65536) (length (element t (element u part))) (and_then (element_len (length part)) element_len)
-wrapped_measures t u part =
+wrapped_measures : (t : ℕ) (o : Option ℕ) (part : List ℕ)
+    → Measures (length (wrapped o part) < 65536) (length (element t (wrapped o part))) (and_then (wrapped_len o (length part)) element_len)
+wrapped_measures t None part = element_measures t part
+wrapped_measures t (Some u) part =
     let n = length-element u part in
     measures_as (λ g. g.1) (λ l. (omega arith, l)) refl (measures_then element_len (element_measures u part) (λ _. element_measures t (element u part)))
-
-inside_measures : (t : ℕ) (k : Kind) (part : List ℕ)
-    → Measures (length (inside k part) < 65536) (length (element t (inside k part))) (and_then (inside_len k (length part)) element_len)
-inside_measures t Element part = element_measures t part
-inside_measures t MechTypes part = element_measures t part
-inside_measures t Oid part = wrapped_measures t 0x06 part
-inside_measures t BitString part = wrapped_measures t 0x03 part
-inside_measures t OctetString part = wrapped_measures t 0x04 part
 
 abbrev GoodField : Kind → Option (List ℕ) → Type 0
 GoodField k o = LegalField k o × Short (option_map (inside k) o)
@@ -77,7 +67,7 @@ GoodField k o = LegalField k o × Short (option_map (inside k) o)
 field_measures : (t : ℕ) (k : Kind) (o : Option (List ℕ)) → Measures (GoodField k o) (length (field t k o)) (field_len k o)
 field_measures t k None = inl ((tt, tt), refl)
 field_measures t k (Some part) =
-    measures_as (λ g. (passes_legal k part g.0, g.1)) (λ g. (legal_passes k part g.0, g.1)) refl (measures_if (legal_test k part) (inside_measures t k part))
+    measures_as (λ g. (passes_legal k part g.0, g.1)) (λ g. (legal_passes k part g.0, g.1)) refl (measures_if (legal_test k part) (wrapped_measures t (wrapper k) part))
 
 pub field_bound : (k : Kind) (n : ℕ) (o : Option (List ℕ)) → Ok n ≡ field_len k o → n < 65540
 field_bound k n None r = let e : n ≡ 0 = cc in omega arith

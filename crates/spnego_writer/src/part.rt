@@ -12,9 +12,9 @@ use sspi::Fault;
 fn inside_len(kind: Kind, n: usize) -> Result<usize, Fault>
     ensures { result ≡ inside_len kind n }
 {
-    match kind {
-        Kind::Element | Kind::MechTypes => Ok(n),
-        Kind::Oid | Kind::BitString | Kind::OctetString => element_len(n),
+    match kind.wrapper() {
+        None => Ok(n),
+        Some(_) => element_len(n),
     }
 }
 
@@ -36,11 +36,9 @@ fn put_inside(w: &mut Writer<'_>, kind: Kind, part: &[u8]) -> Result<(), Fault>
     requires { length (inside kind part.now) < 65536 }
     ensures { Adds (inside kind part.now) w.old w.new result }
 {
-    match kind {
-        Kind::Element | Kind::MechTypes => w.put_bytes(part),
-        Kind::Oid => w.put_element(0x06, part),
-        Kind::BitString => w.put_element(0x03, part),
-        Kind::OctetString => w.put_element(0x04, part),
+    match kind.wrapper() {
+        None => w.put_bytes(part),
+        Some(tag) => w.put_element(tag, part),
     }
 }
 
