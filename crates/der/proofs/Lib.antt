@@ -1,6 +1,7 @@
 pub mod Ways
 pub mod Heads
 pub mod Rules
-pub mod Overs
+pub mod Adding
+pub mod Measures
 pub mod Taking
 pub mod Promised

@@ -1,10 +1,12 @@
 -- How the promises of a reader and a writer follow from what is shown of them.
-use Rattle.std.proofs.Common.{◌≡◌, ℕ, ◌<◌, ◌≤◌, ltb, List, ◌++◌, length, drop, Ok, Err, Result, sym, refl, ap, ◌∙◌, zero-add, arith}
+use Rattle.std.proofs.Common.{◌≡◌, ℕ, ◌<◌, ◌≤◌, List, [], length, Ok, Err, Result, sym, refl, ap, ◌∙◌, arith}
 use Rattle.sspi.specs.declared.fault.Fault.{Fault}
 use Rattle.der.specs.Reading.{illegal}
-use Rattle.der.specs.Writing.{over, element_len, invalid, too_small, Puts}
+use Rattle.std.proofs.lemmas.List.{take-append-drop}
+use Rattle.der.specs.declared.writer.Writer.{Writer}
+use Rattle.der.specs.Writing.{written, room, invalid, too_small, Adds}
 use Rattle.der.specs.Promises.{Exact, Writes, ReadBack, OneWriting, WrittenAgain}
-use Rattle.der.proofs.Ways.{same_ok, Only, only_at, only_cond}
+use Rattle.der.proofs.Ways.{err_ok, same_ok, Only, only_at}
 
 -- a reader that undoes the writing and accepts nothing else is exact
 pub exact_from : {X : Type 0} {Good : X → Type 0} {bytes : X → List ℕ} (read : List ℕ → Result X Fault) → ((x : X) → Good x → read (bytes x) ≡ Ok x)
@@ -33,16 +35,17 @@ writes_unfit bytes out e bad p = record { unfit = λ _. (ap Err p, refl); short 
 pub writes_short : {Good : Type 0} (bytes out : List ℕ) → Good → length out < length bytes → Writes Good bytes out out (Err too_small)
 writes_short bytes out g l = record { unfit = λ bad. absurd (bad g); short = λ _ _. (refl, refl); written = λ _ k. absurd (omega arith) }
 
-pub writes_made : {Good : Type 0} (bytes out after : List ℕ) (r : Result ℕ Fault) → Good → length bytes ≤ length out → Puts r out 0 bytes after → Writes Good bytes out after r
-unfolding over
-writes_made bytes out after r g l p =
-    let w = p (omega arith) in
+pub writes_made : {Good : Type 0} {bytes : List ℕ} {w v : Writer} (out after : List ℕ) (n : ℕ) → Good → length bytes ≤ length out → written w ≡ [] → room w ≡ out
+    → Adds bytes w v (Ok tt) → after ≡ v.out.now → n ≡ length (written v) → Writes Good bytes out after (Ok n)
+writes_made {bytes = bytes} {w = w} {v = v} out after n g l s t p e k =
+    let a = (p.made (omega (arith, ap length t))).1 in
+    let h : written v ≡ bytes = simp s at a.written in
     record {
       unfit = λ bad. absurd (bad g);
       short = λ _ k. absurd (omega arith);
-      written = λ _ _. (w.0 ∙ ap Ok (zero-add (length bytes)), w.1 ∙ ap (λ n. bytes ++ drop n out) (zero-add (length bytes)));
+      written = λ _ _. (ap Ok (k ∙ ap length h), e ∙ (sym (take-append-drop v.at v.out.now) ∙ simp (h, a.room, t)));
     }
 
--- every refusal of a length is the same
-pub only_element_len : (n : ℕ) → Only invalid (element_len n)
-only_element_len n = only_cond invalid (ltb n 65536) _ _ tt refl
+-- one that had room is not refused
+pub not_refused : {bytes : List ℕ} {w v : Writer} {e : Fault} (out : List ℕ) → length bytes ≤ length out → room w ≡ out → Adds bytes w v (Err e) → ⊥
+not_refused {e = e} out l t p = err_ok e tt (p.made (omega (arith, ap length t))).0

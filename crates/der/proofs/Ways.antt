@@ -8,7 +8,7 @@ ways true r s x h = inl (refl, h)
 ways false r s x h = inr (refl, h)
 
 pub err_ok : {X E : Type 0} (e : E) (x : X) → ◌≡◌ {A = Result X E} (Err e) (Ok x) → ⊥
-err_ok e x h = cc (h)
+err_ok e x h = cc
 
 pub same_ok : {X E : Type 0} (x y : X) → ◌≡◌ {A = Result X E} (Ok x) (Ok y) → x ≡ y
 same_ok x y h = cc

@@ -1,12 +1,15 @@
 #![tactic(auto)]
 
-ghost use Rattle.std.specs.Prelude.{◌≡◌, length, Decides};
+ghost use Rattle.std.specs.Prelude.{◌≡◌, Decides};
 ghost use Rattle.der.specs.Reading.{head_of, take_of, only_of, one_element, optional_of, plain_head, plain_taken, plain_part, plain_optional};
-ghost use Rattle.der.specs.Elements.{header, element, oid, bit_string, ObjectIdentifier, BitString};
+ghost use Rattle.der.specs.Elements.{oid, bit_string, ObjectIdentifier, BitString};
 ghost use Rattle.der.specs.Laws.{ReadBack, OnlyWritten, RefusedIllegal, OneWriting};
-ghost use Rattle.der.specs.Writing.{end_of, put, end_if, put_if, element_len};
+ghost use Rattle.der.specs.Writing.{element_len};
+
+mod writer;
 
 use sspi::{ErrorKind, Fault, Layer};
+pub use writer::Writer;
 
 // What every illegal byte string is refused with.
 pub const ILLEGAL: Fault = Fault {
@@ -128,48 +131,6 @@ pub fn element_len(n: usize) -> Result<usize, Fault>
     } else {
         Err(INVALID)
     }
-}
-
-// Writes the bytes from the place `at` on, and gives the place behind them.
-pub fn put_bytes(out: &mut [u8], at: usize, bytes: &[u8]) -> Result<usize, Fault>
-    ensures answer { result ≡ end_of out.old at bytes.now }
-    ensures holds { out.new ≡ put out.old at bytes.now }
-{
-    let n = bytes.len();
-    if at > out.len() || n > out.len() - at {
-        return Err(TOO_SMALL);
-    }
-    out[at..at + n].copy_from_slice(bytes);
-    Ok(at + n)
-}
-
-// Writes the header of an element with n bytes of content: each byte once, front to back.
-pub fn put_header(out: &mut [u8], at: usize, tag: u8, n: usize) -> Result<usize, Fault>
-    ensures answer { result ≡ end_if n out.old at (header tag n) }
-    ensures holds { out.new ≡ put_if n out.old at (header tag n) }
-{
-    if n < 0x80 {
-        put_bytes(out, at, &[tag, n as u8])
-    } else if n < 0x100 {
-        put_bytes(out, at, &[tag, 0x81, n as u8])
-    } else if n < 0x10000 {
-        put_bytes(out, at, &[tag, 0x82, (n / 256) as u8, (n % 256) as u8])
-    } else {
-        Err(INVALID)
-    }
-}
-
-// Writes an element: its header, and behind it the content.
-pub fn put_element(out: &mut [u8], at: usize, tag: u8, content: &[u8]) -> Result<usize, Fault>
-    ensures answer { result ≡ end_if (length content.now) out.old at (element tag content.now) }
-    ensures holds { out.new ≡ put_if (length content.now) out.old at (element tag content.now) }
-{
-    let n = element_len(content.len())?;
-    if at > out.len() || n > out.len() - at {
-        return Err(TOO_SMALL);
-    }
-    let at = put_header(out, at, tag, content.len())?;
-    put_bytes(out, at, content)
 }
 
 // The law of reading and writing: a legal element is read back, nothing but its one writing is read, and all else is refused as illegal.

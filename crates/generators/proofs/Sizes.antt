@@ -1,10 +1,10 @@
 -- How much longer a token is than the mechanism's token in it.
-use Rattle.std.proofs.Common.{◌≡◌, ℕ, ◌+◌, ◌<◌, ◌≤◌, true, ltb, List, [], ◌∷◌, ◌++◌, length, Some, None, Option, Result, sym, refl, ap, ◌∙◌, arith, length-append}
+use Rattle.std.proofs.Common.{◌≡◌, ℕ, ◌+◌, ◌<◌, ◌≤◌, true, ltb, List, [], ◌∷◌, ◌++◌, length, Some, None, Option, Result, refl, ap, ◌∙◌, arith, length-append}
 use Rattle.std.proofs.lemmas.Bool.{lt-ltb, ltb-false, cond-true, cond_both}
 use Rattle.sspi.specs.declared.fault.Fault.{Fault}
 use Rattle.der.specs.Elements.{header, element, oid}
 use Rattle.der.specs.Promises.{Writes}
-use Rattle.der.proofs.Overs.{header_bound}
+use Rattle.der.proofs.Adding.{header_bound}
 use Rattle.der.proofs.Taking.{length-element}
 use Rattle.names.specs.Names.{mech_oid, state_bytes}
 use Rattle.names.specs.declared.mech.Mech.{Mech}

@@ -1,15 +1,18 @@
 -- Writing a list of object identifiers: the loops over them, and the computed length.
-use Rattle.std.proofs.Common.{◌≡◌, ℕ, ◌+◌, ◌<◌, ◌≤◌, true, ltb, List, [], ◌∷◌, ◌++◌, length, get_or, take, drop, Ok, Err, Result, sym, refl, ap, ◌∙◌, subst, add-zero, arith, length-append, Bor}
-use Rattle.std.proofs.lemmas.List.{append-nil, append_assoc, map-append, take_more, take-append-drop, take_all, at_drop_more, at_drop_all}
-use Rattle.std.proofs.lemmas.Bool.{ltb-false, le-ltb, and_parts, and_from, cond-true, cond-false}
+use Rattle.std.proofs.Common.{◌≡◌, ℕ, suc, ◌+◌, ◌<◌, ◌≤◌, true, ltb, cond, List, [], ◌∷◌, ◌++◌, length, get_or, take, drop, Ok, Err, Result, sym, refl, ap, ◌∙◌, inl, inr, ⊎_elim, add-zero, arith, length-append, Bor}
+use Rattle.std.proofs.Math.Seq.{split_at}
+use Rattle.std.proofs.lemmas.Grind.{flat_map-append}
+use Rattle.std.proofs.lemmas.List.{append-nil, map-append, take_more, at_drop_more, at_drop_all}
+use Rattle.std.proofs.lemmas.Bool.{cases_lt, lt-ltb, le-ltb, and_parts, and_from, cond-true, cond-false}
 use Rattle.sspi.specs.declared.fault.Fault.{Fault}
 use Rattle.der.specs.Elements.{element, oid}
 use Rattle.der.specs.Reading.{and_then}
-use Rattle.der.specs.Writing.{end_if, put_if, element_len, invalid, Puts}
-use Rattle.der.proofs.Promised.{only_element_len}
-use Rattle.der.proofs.Ways.{goes_on, err_ok, passed, let_through, Only, only_at, only_then, only_cond}
-use Rattle.der.proofs.Taking.{both, length-element}
-use Rattle.der.proofs.Overs.{element_size, element_len_lem, puts_if, puts_none, puts_puts, puts_refused}
+use Rattle.der.specs.declared.writer.Writer.{Writer}
+use Rattle.der.specs.Writing.{element_len, invalid, Puts, Adds}
+use Rattle.der.proofs.Ways.{goes_on}
+use Rattle.der.proofs.Measures.{Measures, measured, unmeasured, measures_as, measures_then, measures_if, element_measures}
+use Rattle.der.proofs.Taking.{length-element}
+use Rattle.der.proofs.Adding.{element_len_lem, adds, adds_then, adds_refused}
 use Rattle.mech_types.specs.Lists.{oids, mech_type_list, all_oids, GoodList}
 use Rattle.mech_types.specs.Views.{plain_oids}
 use Rattle.mech_types.specs.Writing.{add_oid, oids_len_from}
@@ -32,118 +35,64 @@ len_more n m rs i d l r = sym (len_at n rs i d l ∙ goes_on (λ k. oids_len_fro
 pub len_all : (n : ℕ) (rs : Refs) (i : ℕ) → length rs ≤ i → oids_len_from n (plain_oids (drop i rs)) ≡ Ok n
 len_all n rs i l = at_drop_all (λ xs. oids_len_from n (plain_oids xs)) rs i l
 
--- one object identifier more
-add_size : (n m : ℕ) (o : List ℕ) → add_oid n o ≡ Ok m → (oid o ≡ true) × (m ≡ n + length (element 0x06 o)) × (m ≤ 65535)
-add_size n m o r =
-    let p = let_through (oid o) invalid _ m r in
-    let b = both (element_len (length o)) _ m p.1 in
-    let q = passed (ltb 65535 (n + b.0)) invalid (Ok (n + b.0)) m b.2 in
-    let s = element_size 0x06 b.0 o b.1 in
-    let e : n + b.0 ≡ m = cc q.1 in
-    (p.0, omega (arith, s.1), omega (arith, ltb-false 65535 (n + b.0) q.0))
+-- one object identifier more: the length is that of the writing, and is given just for lists that can be written
+short_measures : (n : ℕ) → Measures (n < 65536) n (cond (ltb 65535 n) (Err invalid) (Ok n))
+short_measures n =
+    ⊎_elim (λ l. inr ((λ k. omega arith), cond-true (ltb 65535 n) _ _ (lt-ltb 65535 n l))) (λ l. inl (omega arith, cond-false (ltb 65535 n) _ _ (le-ltb 65535 n l)))
+    (cases_lt 65535 n)
+
+add_measures : (n : ℕ) (o : List ℕ) → Measures ((oid o ≡ true) × (n + length (element 0x06 o) < 65536)) (n + length (element 0x06 o)) (add_oid n o)
+add_measures n o =
+    let m = length-element 0x06 o in
+    measures_as (λ g. (g.0, g.1.1)) (λ g. (g.0, (omega (arith, g.1), g.1))) refl
+    (measures_if (oid o) (measures_then _ (element_measures 0x06 o) (λ _. short_measures (n + length (element 0x06 o)))))
 
 pub add_bound : (n m : ℕ) (o : List ℕ) → Ok m ≡ add_oid n o → m ≤ 65535
-add_bound n m o r = (add_size n m o (sym r)).2
+add_bound n m o r = let p = measured _ _ (add_oid n o) m (add_measures n o) (sym r) in omega (arith, p.0.1, p.1)
 
-add_len : (n : ℕ) (o : List ℕ) → oid o ≡ true → n + length (element 0x06 o) < 65536 → add_oid n o ≡ Ok (n + length (element 0x06 o))
-add_len n o h l =
-    let m = length-element 0x06 o in
-    let k : n + length (element 0x06 o) ≤ 65535 = omega arith in
-    cond-true (oid o) _ _ h ∙ (goes_on _ (element_len_lem 0x06 o (omega arith)) ∙ cond-false (ltb 65535 (n + length (element 0x06 o))) _ _ (le-ltb 65535 (n + length (element 0x06 o)) k))
-
--- the computed length is that of the writing, and is given only for lists that can be written
-abbrev Rows : ℕ → List (List ℕ) → ℕ → Type 0
-Rows n os k = (all_oids os ≡ true) × (k ≡ n + length (oids os)) × (k ≤ 65535)
-
-pub rows_size : (os : List (List ℕ)) (n k : ℕ) → n ≤ 65535 → oids_len_from n os ≡ Ok k → (all_oids os ≡ true) × (k ≡ n + length (oids os)) × (k ≤ 65535)
+rows_measures : (os : List (List ℕ)) (n : ℕ) → n < 65536 → Measures ((all_oids os ≡ true) × (n + length (oids os) < 65536)) (n + length (oids os)) (oids_len_from n os)
 unfolding oids all_oids
-rows_size [] n k l r = let e : n ≡ k = cc in subst (Rows n []) e (refl, sym (add-zero n), l)
-rows_size (o ∷ os) n k l r =
-    let b = both (add_oid n o) _ k r in
-    let s = add_size n b.0 o b.1 in
-    let t = rows_size os b.0 k s.2 b.2 in
+rows_measures [] n l = inl ((refl, omega arith), ap Ok (sym (add-zero n)))
+rows_measures (o ∷ os) n l =
     let a = length-append (element 0x06 o) (oids os) in
-    (and_from (oid o) (all_oids os) s.0 t.0, omega (arith, s.1, t.1), t.2)
+    measures_as (λ g. (and_from (oid o) (all_oids os) g.0.0 g.1.0, omega (arith, g.1.1)))
+    (λ g. let p = and_parts (oid o) (all_oids os) g.0 in ((p.0, omega (arith, g.1)), (p.1, omega (arith, g.1)))) (omega arith)
+    (measures_then (λ m. oids_len_from m os) (add_measures n o) (λ g. rows_measures os (n + length (element 0x06 o)) g.1))
 
-pub rows_len : (os : List (List ℕ)) (n : ℕ) → all_oids os ≡ true → n + length (oids os) < 65536 → oids_len_from n os ≡ Ok (n + length (oids os))
-unfolding oids all_oids
-rows_len [] n h l = ap Ok (sym (add-zero n))
-rows_len (o ∷ os) n h l =
-    let p = and_parts (oid o) (all_oids os) h in
-    let a = length-append (element 0x06 o) (oids os) in
-    goes_on (λ m. oids_len_from m os) (add_len n o p.0 (omega arith)) ∙ (rows_len os (n + length (element 0x06 o)) p.1 (omega arith) ∙ ap Ok (omega arith))
-
-only_add : (n : ℕ) (o : List ℕ) → Only invalid (add_oid n o)
-only_add n o =
-    only_cond invalid (oid o) _ _ (only_then invalid (element_len (length o)) _ (only_element_len (length o)) (λ m. only_cond invalid (ltb 65535 (n + m)) _ _ refl tt)) refl
-
-only_rows : (os : List (List ℕ)) (n : ℕ) → Only invalid (oids_len_from n os)
-only_rows [] n = tt
-only_rows (o ∷ os) n = only_then invalid (add_oid n o) _ (only_add n o) (λ m. only_rows os m)
+list_measures : (os : List (List ℕ)) → Measures (GoodList os) (length (oids os)) (oids_len_from 0 os)
+list_measures os =
+    measures_as (λ g. record { all = g.0; short = omega (arith, g.1) }) (λ g. (g.all, omega (arith, g.short))) (omega arith) (rows_measures os 0 (omega arith))
 
 pub list_refused : (os : List (List ℕ)) (e : Fault) → oids_len_from 0 os ≡ Err e → (GoodList os → ⊥) × (e ≡ invalid)
-list_refused os e r =
-    let no : GoodList os → ⊥ = λ g. let l = g.short in err_ok e (0 + length (oids os)) (sym r ∙ rows_len os 0 g.all (omega arith)) in
-    (no, only_at invalid e (oids_len_from 0 os) (only_rows os 0) r)
+list_refused os e r = unmeasured _ _ (oids_len_from 0 os) e (list_measures os) r
 
 -- the loop over the writing
-oids-append : (a b : List (List ℕ)) → oids (a ++ b) ≡ oids a ++ oids b
+row_more : (rs : Refs) (i : ℕ) (d : Bor (List ℕ)) → i < length rs → oids (plain_oids (take (i + 1) rs)) ≡ oids (plain_oids (take i rs)) ++ element 0x06 (get_or rs i d).now
 unfolding oids
-oids-append [] b = refl
-oids-append (o ∷ a) b = ap (λ v. element 0x06 o ++ v) (oids-append a b) ∙ sym (append_assoc (element 0x06 o) (oids a) (oids b))
+row_more rs i d l = simp (take_more rs i d l, map-append, flat_map-append, append-nil)
 
-pub row_more : (rs : Refs) (i : ℕ) (d : Bor (List ℕ)) → i < length rs → oids (plain_oids (take (i + 1) rs)) ≡ oids (plain_oids (take i rs)) ++ element 0x06 (get_or rs i d).now
+row_split : (rs : Refs) (i : ℕ) (d : Bor (List ℕ)) → i < length rs
+    → oids (plain_oids rs) ≡ oids (plain_oids (take i rs)) ++ (element 0x06 (get_or rs i d).now ++ oids (plain_oids (drop (suc i) rs)))
 unfolding oids
-row_more rs i d l =
-    ap (λ v. oids (plain_oids v)) (take_more rs i d l)
-    ∙ (ap oids (map-append (λ (y : Bor (List ℕ)). y.now) (take i rs) (get_or rs i d ∷ []))
-    ∙ (oids-append (plain_oids (take i rs)) ((get_or rs i d).now ∷ []) ∙ ap (λ v. oids (plain_oids (take i rs)) ++ v) (append-nil (element 0x06 (get_or rs i d).now))))
-
-pub row_split : (rs : Refs) (i : ℕ) (d : Bor (List ℕ)) → i < length rs
-    → oids (plain_oids rs) ≡ oids (plain_oids (take i rs)) ++ (element 0x06 (get_or rs i d).now ++ oids (plain_oids (drop (i + 1) rs)))
-row_split rs i d l =
-    ap (λ v. oids (plain_oids v)) (sym (take-append-drop (i + 1) rs))
-    ∙ (ap oids (map-append (λ (y : Bor (List ℕ)). y.now) (take (i + 1) rs) (drop (i + 1) rs))
-    ∙ (oids-append (plain_oids (take (i + 1) rs)) (plain_oids (drop (i + 1) rs))
-    ∙ (ap (λ v. v ++ oids (plain_oids (drop (i + 1) rs))) (row_more rs i d l)
-    ∙ append_assoc (oids (plain_oids (take i rs))) (element 0x06 (get_or rs i d).now) (oids (plain_oids (drop (i + 1) rs))))))
+row_split rs i d l = ap (λ v. oids (plain_oids v)) (split_at rs i d l) ∙ simp (map-append, flat_map-append)
 
 -- an object identifier of a list that can be written
 row_fits : (rs : Refs) (i : ℕ) (d : Bor (List ℕ)) → i < length rs → length (oids (plain_oids rs)) < 65536 → length (get_or rs i d).now < 65536
 row_fits rs i d l s =
     let e = ap length (row_split rs i d l) in
-    let a = length-append (oids (plain_oids (take i rs))) (element 0x06 (get_or rs i d).now ++ oids (plain_oids (drop (i + 1) rs))) in
-    let b = length-append (element 0x06 (get_or rs i d).now) (oids (plain_oids (drop (i + 1) rs))) in
     let n = length-element 0x06 (get_or rs i d).now in
-    omega arith
+    omega (arith, simp length-append at e)
 
-pub row_puts : (rs : Refs) (i at : ℕ) (d : Bor (List ℕ)) (r : Result ℕ Fault) (out after : List ℕ) → i < length rs → length (oids (plain_oids rs)) < 65536
-    → r ≡ end_if (length (get_or rs i d).now) out at (element 0x06 (get_or rs i d).now) → after ≡ put_if (length (get_or rs i d).now) out at (element 0x06 (get_or rs i d).now)
-    → Puts r out at (element 0x06 (get_or rs i d).now) after
-row_puts rs i at d r out after l s a h = puts_if (length (get_or rs i d).now) at r out (element 0x06 (get_or rs i d).now) after (row_fits rs i d l s) a h
+-- one more is written
+pub row_again : (rs : Refs) (i : ℕ) (d : Bor (List ℕ)) {w m v : Writer} → i < length rs → length (oids (plain_oids rs)) < 65536
+    → Adds (oids (plain_oids (take i rs))) w m (Ok tt) → Puts (length (get_or rs i d).now < 65536) (element 0x06 (get_or rs i d).now) m v (Ok tt)
+    → Adds (oids (plain_oids (take (i + 1) rs))) w v (Ok tt)
+row_again rs i d l s p q = rw (row_more rs i d l) (adds_then p (adds (row_fits rs i d l s) q))
 
-pub row_again : (rs : Refs) (i start at next : ℕ) (d : Bor (List ℕ)) (out mid after : List ℕ) → i < length rs
-    → Puts (Ok at) out start (oids (plain_oids (take i rs))) mid → Puts (Ok next) mid at (element 0x06 (get_or rs i d).now) after
-    → Puts (Ok next) out start (oids (plain_oids (take (i + 1) rs))) after
-row_again rs i start at next d out mid after l p q =
-    let P : List ℕ → Type 0 = λ v. Puts (Ok next) out start v after in
-    subst P (sym (row_more rs i d l)) (puts_puts (Ok next) out (oids (plain_oids (take i rs))) mid (element 0x06 (get_or rs i d).now) after start at p q)
-
-pub row_refused : (rs : Refs) (i start at : ℕ) (d : Bor (List ℕ)) (e : Fault) (r : Result ℕ Fault) (out mid after : List ℕ) → i < length rs
-    → Puts (Ok at) out start (oids (plain_oids (take i rs))) mid → Puts (Err e) mid at (element 0x06 (get_or rs i d).now) after
-    → Puts r out start (oids (plain_oids rs)) after
-row_refused rs i start at d e r out mid after l p q =
-    let P : List ℕ → Type 0 = λ v. Puts r out start v after in
-    subst P (sym (row_split rs i d l))
-    (puts_puts r out (oids (plain_oids (take i rs))) mid (element 0x06 (get_or rs i d).now ++ oids (plain_oids (drop (i + 1) rs))) after start at p
-    (puts_refused e r mid (element 0x06 (get_or rs i d).now) after (oids (plain_oids (drop (i + 1) rs))) after at q))
-
-pub row_all : (rs : Refs) (i start at : ℕ) (out after : List ℕ) → length rs ≤ i → Puts (Ok at) out start (oids (plain_oids (take i rs))) after → Puts (Ok at) out start (oids (plain_oids rs)) after
-row_all rs i start at out after l p = subst (λ (v : Refs). Puts (Ok at) out start (oids (plain_oids v)) after) (take_all i rs l) p
-
-pub row_none : (out : List ℕ) (start : ℕ) → Puts (Ok start) out start (oids []) out
-unfolding oids
-row_none out start = puts_none out start
+pub row_refused : (rs : Refs) (i : ℕ) (d : Bor (List ℕ)) {w m v : Writer} {e : Fault} {r : Result (Unit {0}) Fault} → i < length rs → length (oids (plain_oids rs)) < 65536
+    → Adds (oids (plain_oids (take i rs))) w m (Ok tt) → Puts (length (get_or rs i d).now < 65536) (element 0x06 (get_or rs i d).now) m v (Err e)
+    → Adds (oids (plain_oids rs)) w v r
+row_refused rs i d l s p q = rw (row_split rs i d l) (adds_then p (adds_refused _ (adds (row_fits rs i d l s) q)))
 
 -- the whole list
 pub record ListSizes (os : List (List ℕ)) (n : ℕ) : Type 0 where
@@ -155,7 +104,5 @@ pub record ListSizes (os : List (List ℕ)) (n : ℕ) : Type 0 where
 pub list_sizes : (os : List (List ℕ)) (body : ℕ) → Ok body ≡ oids_len_from 0 os → ListSizes os body
 unfolding mech_type_list
 list_sizes os body r =
-    let s = rows_size os 0 body (omega arith) (sym r) in
-    let e : body ≡ length (oids os) = omega (arith, s.1) in
-    let l : length (oids os) < 65536 = omega (arith, s.2) in
-    record { good = record { all = s.0; short = l }; body = e; fits = omega arith; token = ap element_len e ∙ element_len_lem 0x30 (oids os) l }
+    let p = measured _ _ (oids_len_from 0 os) body (list_measures os) (sym r) in
+    record { good = p.0; body = p.1; fits = omega (arith, p.0.short, p.1); token = ap element_len p.1 ∙ element_len_lem 0x30 (oids os) p.0.short }

@@ -1,7 +1,7 @@
 #![tactic(auto)]
 
 ghost use Rattle.std.specs.Prelude.{◌≡◌, ◌<◌, ◌≤◌, length, is_ok, IsOk};
-ghost use Rattle.der.specs.Writing.{Puts};
+ghost use Rattle.der.specs.Writing.{Adds};
 ghost use Rattle.der.specs.Promises.{Exact, Writes};
 ghost use Rattle.mech_types.specs.Reading.{next_of, plain_next, oids_of, read_mech_type_list};
 ghost use Rattle.mech_types.specs.Lists.{oids as oidsBytes, mech_type_list, GoodList};
@@ -9,7 +9,7 @@ ghost use Rattle.mech_types.specs.Views.{plain_oids};
 ghost use Rattle.mech_types.specs.Writing.{add_oid, oids_len_from};
 ghost use Rattle.std.specs.Result.{result_ok};
 
-use der::{ILLEGAL, INVALID, TOO_SMALL, element_len, is_oid, only, put_element, put_header, take};
+use der::{ILLEGAL, INVALID, TOO_SMALL, Writer, element_len, is_oid, only, take};
 use sspi::Fault;
 
 // Takes one object identifier off the front: its content, and what follows it.
@@ -66,8 +66,10 @@ impl<'a> MechTypeList<'a> {
         if out.len() < element_len(body)? {
             return Err(TOO_SMALL);
         }
-        let at = put_header(out, 0, 0x30, body)?;
-        put_oids(out, at, oids)
+        let mut w = Writer::new(out);
+        w.put_header(0x30, body)?;
+        put_oids(&mut w, oids)?;
+        Ok(w.len())
     }
 }
 
@@ -115,13 +117,12 @@ fn oids_len(oids: &[&[u8]]) -> Result<usize, Fault>
 }
 
 // Writes the object identifiers, one behind the other.
-fn put_oids(out: &mut [u8], start: usize, oids: &[&[u8]]) -> Result<usize, Fault>
+fn put_oids(w: &mut Writer<'_>, oids: &[&[u8]]) -> Result<(), Fault>
     requires { length (oidsBytes (plain_oids oids.now)) < 65536 }
-    ensures { Puts result out.old start (oidsBytes (plain_oids oids.now)) out.new }
+    ensures { Adds (oidsBytes (plain_oids oids.now)) w.old w.new result }
 {
-    let mut at = start;
     for oid in oids {
-        at = put_element(out, at, 0x06, oid)?;
+        w.put_element(0x06, oid)?;
     }
-    Ok(at)
+    Ok(())
 }

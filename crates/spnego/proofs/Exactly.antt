@@ -10,19 +10,16 @@ use Rattle.mech_types.specs.Reading.{next_of}
 use Rattle.mech_types.proofs.Listing.{refused_next}
 use Rattle.spnego.specs.declared.part.Kind.{Kind}
 use Rattle.spnego.specs.declared.part.Kind.TheVariants.{Element, MechTypes, Oid, BitString, OctetString}
-use Rattle.spnego.specs.Tokens.{Targ, targ_bytes, TargWellFormed, Init, init_bytes, InitWellFormed}
-use Rattle.spnego.specs.Reading.{legal_test, part_of, inner_of, within_of, field_of, fields_of, sequence_of, read_targ, read_init}
+use Rattle.spnego.specs.Tokens.{wrapper, Targ, targ_bytes, TargWellFormed, Init, init_bytes, InitWellFormed}
+use Rattle.spnego.specs.Reading.{legal_test, unwrapped, part_of, inner_of, within_of, field_of, fields_of, sequence_of, read_targ, read_init}
 use Rattle.spnego.proofs.Whole.{targ_written, targ_read_lem, init_written, init_read_lem}
 
-refused_part : (k : Kind) (content : List ℕ) → Only illegal (part_of k content)
-refused_part Element content = tt
-refused_part MechTypes content = tt
-refused_part Oid content = refused_only 0x06 content
-refused_part BitString content = refused_only 0x03 content
-refused_part OctetString content = refused_only 0x04 content
+refused_part : (o : Option ℕ) (content : List ℕ) → Only illegal (unwrapped o content)
+refused_part None content = tt
+refused_part (Some t) content = refused_only t content
 
 refused_inner : (k : Kind) (content : List ℕ) → Only illegal (inner_of k content)
-refused_inner k content = only_then illegal (part_of k content) _ (refused_part k content) (λ part. only_cond illegal (legal_test k part) _ _ tt refl)
+refused_inner k content = only_then illegal (part_of k content) _ (refused_part (wrapper k) content) (λ part. only_cond illegal (legal_test k part) _ _ tt refl)
 
 refused_within : (k : Kind) (o : Option (List ℕ)) (rest : List ℕ) → Only illegal (within_of k o rest)
 refused_within k None rest = tt

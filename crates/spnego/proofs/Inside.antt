@@ -1,17 +1,17 @@
 -- What stands inside a field, and one field: what is written is read back, and what is read is the writing.
-use Rattle.std.proofs.Common.{◌≡◌, ℕ, ◌<◌, true, false, cond, List, ◌++◌, length, is_ok, Some, None, Ok, Err, Option, Result, refl, ap, ◌∙◌, subst, arith}
+use Rattle.std.proofs.Common.{◌≡◌, ℕ, ◌<◌, true, false, cond, List, ◌++◌, length, is_ok, Some, None, Ok, Err, Option, Result, sym, refl, ap, ◌∙◌, subst, arith}
 use Rattle.std.specs.Option.{option_map}
 use Rattle.std.proofs.lemmas.Bool.{cond-true, false≢true}
 use Rattle.sspi.specs.declared.fault.Fault.{Fault}
-use Rattle.der.specs.Elements.{tag, element, Short}
-use Rattle.der.specs.Reading.{illegal, and_then, only_of, one_element, begins, optional_of}
+use Rattle.der.specs.Elements.{tag, Short}
+use Rattle.der.specs.Reading.{illegal, and_then, one_element, begins, optional_of}
 use Rattle.der.proofs.Ways.{let_through}
 use Rattle.der.proofs.Taking.{both, length-element, only_written, only_read, element_one, one_element_lem, optional_written, optional_read}
 use Rattle.mech_types.specs.Reading.{read_mech_type_list}
 use Rattle.spnego.specs.declared.part.Kind.{Kind}
 use Rattle.spnego.specs.declared.part.Kind.TheVariants.{Element, MechTypes, Oid, BitString, OctetString}
-use Rattle.spnego.specs.Tokens.{Legal, inside, field, LegalField}
-use Rattle.spnego.specs.Reading.{legal_test, part_of, inner_of, Field, within_of, field_of}
+use Rattle.spnego.specs.Tokens.{wrapper, wrapped, Legal, inside, field, LegalField}
+use Rattle.spnego.specs.Reading.{legal_test, unwrapped, part_of, inner_of, Field, within_of, field_of}
 use Rattle.mech_types.proofs.Listing.{list_written, list_read_lem}
 
 ok_value : {X : Type 0} (r : Result X Fault) → is_ok r ≡ true → (x : X) × (r ≡ Ok x)
@@ -33,34 +33,32 @@ passes_legal Oid part h = h
 passes_legal BitString part h = h
 passes_legal OctetString part h = tt
 
--- a part inside an element of its own
-wrapped : (t : ℕ) (part : List ℕ) → tag t ≡ true → length (element t part) < 65536 → only_of t (element t part) ≡ Ok part
-wrapped t part h l = let n = length-element t part in only_written t part h (omega arith)
+-- what stands around a part has a legal tag
+tag_legal : (k : Kind) (t : ℕ) → wrapper k ≡ Some t → tag t ≡ true
+tag_legal Element t e = cc
+tag_legal MechTypes t e = cc
+tag_legal Oid t e = let s : 0x06 ≡ t = cc in ap tag (sym s)
+tag_legal BitString t e = let s : 0x03 ≡ t = cc in ap tag (sym s)
+tag_legal OctetString t e = let s : 0x04 ≡ t = cc in ap tag (sym s)
 
-part_written : (k : Kind) (part : List ℕ) → length (inside k part) < 65536 → part_of k (inside k part) ≡ Ok part
-part_written Element part l = refl
-part_written MechTypes part l = refl
-part_written Oid part l = wrapped 0x06 part refl l
-part_written BitString part l = wrapped 0x03 part refl l
-part_written OctetString part l = wrapped 0x04 part refl l
+part_written : (o : Option ℕ) (part : List ℕ) → ((t : ℕ) → o ≡ Some t → tag t ≡ true) → length (wrapped o part) < 65536 → unwrapped o (wrapped o part) ≡ Ok part
+part_written None part h l = refl
+part_written (Some t) part h l = let n = length-element t part in only_written t part (h t refl) (omega arith)
 
-part_read_lem : (k : Kind) (content part : List ℕ) → part_of k content ≡ Ok part → content ≡ inside k part
-part_read_lem Element content part r = cc
-part_read_lem MechTypes content part r = cc
-part_read_lem Oid content part r = (only_read 0x06 content part r).0
-part_read_lem BitString content part r = (only_read 0x03 content part r).0
-part_read_lem OctetString content part r = (only_read 0x04 content part r).0
+part_read_lem : (o : Option ℕ) (content part : List ℕ) → unwrapped o content ≡ Ok part → content ≡ wrapped o part
+part_read_lem None content part r = cc
+part_read_lem (Some t) content part r = (only_read t content part r).0
 
 inner_written : (k : Kind) (part : List ℕ) → Legal k part → length (inside k part) < 65536 → inner_of k (inside k part) ≡ Ok part
 inner_written k part h l =
-    ap (λ r. and_then r (λ p. cond (legal_test k p) (Ok p) (Err illegal))) (part_written k part l) ∙ cond-true (legal_test k part) (Ok part) (Err illegal) (legal_passes k part h)
+    ap (λ r. and_then r (λ p. cond (legal_test k p) (Ok p) (Err illegal))) (part_written (wrapper k) part (tag_legal k) l) ∙ cond-true (legal_test k part) (Ok part) (Err illegal) (legal_passes k part h)
 
 inner_read : (k : Kind) (content part : List ℕ) → inner_of k content ≡ Ok part → (content ≡ inside k part) × Legal k part
 inner_read k content part r =
     let b = both (part_of k content) _ part r in
     let p = let_through (legal_test k b.0) illegal (Ok b.0) part b.2 in
     let e : b.0 ≡ part = cc p.1 in
-    (part_read_lem k content b.0 b.1 ∙ ap (inside k) e, subst (Legal k) e (passes_legal k b.0 p.0))
+    (part_read_lem (wrapper k) content b.0 b.1 ∙ ap (inside k) e, subst (Legal k) e (passes_legal k b.0 p.0))
 
 within_written : (k : Kind) (o : Option (List ℕ)) (rest : List ℕ) → LegalField k o → Short (option_map (inside k) o) → within_of k (option_map (inside k) o) rest ≡ Ok (o, rest)
 within_written k None rest h s = refl

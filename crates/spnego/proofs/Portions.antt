@@ -1,11 +1,11 @@
 -- Each field of a token is a part of its writing.
-use Rattle.std.proofs.Common.{◌≡◌, ℕ, List, [], ◌++◌, IfOk, Some, Ok, Err, Option, Result, sym, ap, ◌∙◌, subst}
+use Rattle.std.proofs.Common.{◌≡◌, ℕ, List, [], ◌++◌, IfOk, Some, None, Ok, Err, Option, Result, sym, ap, ◌∙◌, subst}
 use Rattle.std.proofs.lemmas.List.{append-nil, append_assoc}
 use Rattle.sspi.specs.declared.fault.Fault.{Fault}
 use Rattle.der.specs.Elements.{element}
 use Rattle.spnego.specs.declared.part.Kind.{Kind}
 use Rattle.spnego.specs.declared.part.Kind.TheVariants.{Element, MechTypes, Oid, BitString, OctetString}
-use Rattle.spnego.specs.Tokens.{inside, field, Fields, four_fields, sequence, Targ, targ_fields, targ_bytes, Init, init_fields, init_content, init_bytes}
+use Rattle.spnego.specs.Tokens.{wrapper, wrapped, inside, field, Fields, four_fields, sequence, Targ, targ_fields, targ_bytes, Init, init_fields, init_content, init_bytes}
 use Rattle.spnego.specs.Reading.{read_targ, read_init}
 use Rattle.spnego.specs.Places.{Within, Parts}
 use Rattle.spnego.proofs.Whole.{targ_read_lem, init_read_lem}
@@ -23,15 +23,12 @@ in_element : (t : ℕ) (p c : List ℕ) → Within p c → Within p (element t c
 unfolding element
 in_element t p c w = on_right p _ c w
 
-in_inside : (k : Kind) (p : List ℕ) → Within p (inside k p)
-in_inside Element p = whole p
-in_inside MechTypes p = whole p
-in_inside Oid p = in_element 0x06 p p (whole p)
-in_inside BitString p = in_element 0x03 p p (whole p)
-in_inside OctetString p = in_element 0x04 p p (whole p)
+in_wrapped : (o : Option ℕ) (p : List ℕ) → Within p (wrapped o p)
+in_wrapped None p = whole p
+in_wrapped (Some t) p = in_element t p p (whole p)
 
 in_field : (t : ℕ) (k : Kind) (o : Option (List ℕ)) (p : List ℕ) → o ≡ Some p → Within p (field t k o)
-in_field t k o p e = subst (λ (v : Option (List ℕ)). Within p (field t k v)) (sym e) (in_element t p (inside k p) (in_inside k p))
+in_field t k o p e = subst (λ (v : Option (List ℕ)). Within p (field t k v)) (sym e) (in_element t p (inside k p) (in_wrapped (wrapper k) p))
 
 -- wherever the sequence of the four fields stands, each is a part
 sequence_parts : (k l : Kind) (f : Fields) (xs : List ℕ) → ((p : List ℕ) → Within p (sequence k l f) → Within p xs) → Parts xs f

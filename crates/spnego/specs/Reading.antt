@@ -6,7 +6,7 @@ use Rattle.der.specs.Reading.{illegal, and_then, only_of, one_element, optional_
 use Rattle.mech_types.specs.Reading.{next_of, read_mech_type_list}
 use Rattle.spnego.specs.declared.part.Kind.{Kind}
 use Rattle.spnego.specs.declared.part.Kind.TheVariants.{Element, MechTypes, Oid, BitString, OctetString}
-use Rattle.spnego.specs.Tokens.{Fields, Targ, Init}
+use Rattle.spnego.specs.Tokens.{wrapper, Fields, Targ, Init}
 use Rattle.sspi.specs.declared.fault.Fault.{Fault}
 use Rattle.std.specs.Option.{option_map}
 
@@ -18,12 +18,12 @@ legal_test BitString part = bit_string part
 legal_test OctetString part = true
 
 -- the part that stands inside a field
+abbrev pub unwrapped : Option ℕ → List ℕ → Result (List ℕ) Fault
+unwrapped None content = Ok content
+unwrapped (Some t) content = only_of t content
+
 abbrev pub part_of : Kind → List ℕ → Result (List ℕ) Fault
-part_of Element content = Ok content
-part_of MechTypes content = Ok content
-part_of Oid content = only_of 0x06 content
-part_of BitString content = only_of 0x03 content
-part_of OctetString content = only_of 0x04 content
+part_of k content = unwrapped (wrapper k) content
 
 abbrev pub inner_of : Kind → List ℕ → Result (List ℕ) Fault
 inner_of k content = and_then (part_of k content) (λ part. cond (legal_test k part) (Ok part) (Err illegal))

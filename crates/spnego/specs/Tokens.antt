@@ -15,13 +15,21 @@ Legal Oid part = oid part ≡ true
 Legal BitString part = bit_string part ≡ true
 Legal OctetString part = Unit {0}
 
+-- the tag of the element around a part of each kind, if the part is not an element itself
+abbrev pub wrapper : Kind → Option ℕ
+wrapper Element = None
+wrapper MechTypes = None
+wrapper Oid = Some 0x06
+wrapper BitString = Some 0x03
+wrapper OctetString = Some 0x04
+
 -- how a part stands inside its field: one that is an element itself as it is, any other as the content of an element
+abbrev pub wrapped : Option ℕ → List ℕ → List ℕ
+wrapped None part = part
+wrapped (Some t) part = element t part
+
 abbrev pub inside : Kind → List ℕ → List ℕ
-inside Element part = part
-inside MechTypes part = part
-inside Oid part = element 0x06 part
-inside BitString part = element 0x03 part
-inside OctetString part = element 0x04 part
+inside k part = wrapped (wrapper k) part
 
 -- a field, which may be absent
 abbrev pub field : ℕ → Kind → Option (List ℕ) → List ℕ

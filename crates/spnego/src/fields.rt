@@ -1,12 +1,60 @@
-ghost use Rattle.std.specs.Prelude.{◌≡◌};
+ghost use Rattle.std.specs.Prelude.{◌≡◌, [], ◌∷◌};
 ghost use Rattle.spnego.specs.Reading.{fields_of, sequence_of};
 ghost use Rattle.spnego.specs.Views.{fields_read};
 
-use crate::part::{Kind, field};
+use crate::part::{Field, Kind};
 use der::{ILLEGAL, only};
 use sspi::Fault;
 
-// The four optional fields that end both tokens.
+// What the first two of the four fields that end a token hold; the others are octet strings.
+#[derive(Clone, Copy)]
+pub struct Layout {
+    pub first: Kind,
+    pub second: Kind,
+}
+
+impl Layout {
+    pub const INIT: Layout = Layout {
+        first: Kind::MechTypes,
+        second: Kind::BitString,
+    };
+
+    pub const TARG: Layout = Layout {
+        first: Kind::Element,
+        second: Kind::Oid,
+    };
+
+    // The four fields, in their order.
+    pub fn fields(self) -> [Field; 4]
+        ensures { result
+            ≡ record { tag = 0xa0; kind = self.first }
+            ∷ record { tag = 0xa1; kind = self.second }
+            ∷ record { tag = 0xa2; kind = Kind.OctetString }
+            ∷ record { tag = 0xa3; kind = Kind.OctetString }
+            ∷ [] }
+    {
+        [
+            Field {
+                tag: 0xa0,
+                kind: self.first,
+            },
+            Field {
+                tag: 0xa1,
+                kind: self.second,
+            },
+            Field {
+                tag: 0xa2,
+                kind: Kind::OctetString,
+            },
+            Field {
+                tag: 0xa3,
+                kind: Kind::OctetString,
+            },
+        ]
+    }
+}
+
+// The parts that the four fields hold.
 #[derive(Clone, Copy)]
 pub struct TokenFields<'a> {
     pub first: Option<&'a [u8]>,
@@ -16,31 +64,28 @@ pub struct TokenFields<'a> {
 }
 
 // Reads the four fields, in their order, which fill the input.
-fn fields<'a>(input: &'a [u8], first: Kind, second: Kind) -> Result<TokenFields<'a>, Fault>
-    ensures { fields_read result ≡ fields_of first second input.now }
+fn fields(input: &[u8], layout: Layout) -> Result<TokenFields<'_>, Fault>
+    ensures { fields_read result ≡ fields_of layout.first layout.second input.now }
 {
-    let (a, rest) = field(input, 0xa0, first)?;
-    let (b, rest) = field(rest, 0xa1, second)?;
-    let (c, rest) = field(rest, 0xa2, Kind::OctetString)?;
-    let (d, rest) = field(rest, 0xa3, Kind::OctetString)?;
+    let [a, b, c, d] = layout.fields();
+    let (first, rest) = a.read(input)?;
+    let (second, rest) = b.read(rest)?;
+    let (third, rest) = c.read(rest)?;
+    let (fourth, rest) = d.read(rest)?;
     if !rest.is_empty() {
         return Err(ILLEGAL);
     }
     Ok(TokenFields {
-        first: a,
-        second: b,
-        third: c,
-        fourth: d,
+        first,
+        second,
+        third,
+        fourth,
     })
 }
 
 // Reads the sequence of the four fields, which fills the input.
-pub(crate) fn sequence<'a>(
-    input: &'a [u8],
-    first: Kind,
-    second: Kind,
-) -> Result<TokenFields<'a>, Fault>
-    ensures { fields_read result ≡ sequence_of first second input.now }
+pub(crate) fn sequence(input: &[u8], layout: Layout) -> Result<TokenFields<'_>, Fault>
+    ensures { fields_read result ≡ sequence_of layout.first layout.second input.now }
 {
-    fields(only(input, 0x30)?, first, second)
+    fields(only(input, 0x30)?, layout)
 }

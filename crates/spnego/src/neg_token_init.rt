@@ -3,10 +3,9 @@ ghost use Rattle.der.specs.Promises.{Exact};
 ghost use Rattle.spnego.specs.Places.{Within, Parts};
 ghost use Rattle.spnego.specs.Reading.{read_init};
 ghost use Rattle.spnego.specs.Tokens.{init_fields, init_bytes, InitWellFormed};
-ghost use Rattle.spnego.specs.Views.{init_read};
+ghost use Rattle.spnego.specs.Views.{plain_fields, plain_init, init_read};
 
-use crate::fields::sequence;
-use crate::part::Kind;
+use crate::fields::{Layout, TokenFields, sequence};
 use der::only;
 use mech_types::next_oid;
 use sspi::Fault;
@@ -23,19 +22,14 @@ pub struct NegTokenInit<'a> {
 
 impl<'a> NegTokenInit<'a> {
     // Reads a token that fills the input.
+    #[tactic(auto, unfolding(crate::specs::Reading::read_init))]
     pub fn read(input: &'a [u8]) -> Result<NegTokenInit<'a>, Fault>
         ensures answer { init_read result ≡ read_init input.now }
         ensures exact { Exact InitWellFormed init_bytes input.now (init_read result) }
         ensures parts { IfOk (init_read result) (λ t. Within t.this_mech input.now × Parts input.now (init_fields t)) }
     {
-        Self::parse(input)
-    }
-
-    fn parse(input: &'a [u8]) -> Result<NegTokenInit<'a>, Fault>
-        ensures { init_read result ≡ read_init input.now }
-    {
         let (this_mech, rest) = next_oid(only(input, 0x60)?)?;
-        let fields = sequence(only(rest, 0xa0)?, Kind::MechTypes, Kind::BitString)?;
+        let fields = sequence(only(rest, 0xa0)?, Layout::INIT)?;
         Ok(NegTokenInit {
             this_mech,
             mech_types: fields.first,
@@ -43,5 +37,19 @@ impl<'a> NegTokenInit<'a> {
             mech_token: fields.third,
             mech_list_mic: fields.fourth,
         })
+    }
+}
+
+// The four fields that end the token.
+impl<'a> From<&NegTokenInit<'a>> for TokenFields<'a> {
+    ghost from_gives = { λ t f. plain_fields f ≡ init_fields (plain_init t.now) };
+
+    fn from(token: &NegTokenInit<'a>) -> TokenFields<'a> {
+        TokenFields {
+            first: token.mech_types,
+            second: token.req_flags,
+            third: token.mech_token,
+            fourth: token.mech_list_mic,
+        }
     }
 }

@@ -3,10 +3,9 @@ ghost use Rattle.der.specs.Promises.{Exact};
 ghost use Rattle.spnego.specs.Places.{Parts};
 ghost use Rattle.spnego.specs.Reading.{read_targ};
 ghost use Rattle.spnego.specs.Tokens.{targ_fields, targ_bytes, TargWellFormed};
-ghost use Rattle.spnego.specs.Views.{targ_read};
+ghost use Rattle.spnego.specs.Views.{plain_fields, plain_targ, targ_read};
 
-use crate::fields::sequence;
-use crate::part::Kind;
+use crate::fields::{Layout, TokenFields, sequence};
 use der::only;
 use sspi::Fault;
 
@@ -21,23 +20,32 @@ pub struct NegTokenTarg<'a> {
 
 impl<'a> NegTokenTarg<'a> {
     // Reads a token that fills the input.
+    #[tactic(auto, unfolding(crate::specs::Reading::read_targ))]
     pub fn read(input: &'a [u8]) -> Result<NegTokenTarg<'a>, Fault>
         ensures answer { targ_read result ≡ read_targ input.now }
         ensures exact { Exact TargWellFormed targ_bytes input.now (targ_read result) }
         ensures parts { IfOk (targ_read result) (λ t. Parts input.now (targ_fields t)) }
     {
-        Self::parse(input)
-    }
-
-    fn parse(input: &'a [u8]) -> Result<NegTokenTarg<'a>, Fault>
-        ensures { targ_read result ≡ read_targ input.now }
-    {
-        let fields = sequence(only(input, 0xa1)?, Kind::Element, Kind::Oid)?;
+        let fields = sequence(only(input, 0xa1)?, Layout::TARG)?;
         Ok(NegTokenTarg {
             neg_state: fields.first,
             supported_mech: fields.second,
             response_token: fields.third,
             mech_list_mic: fields.fourth,
         })
+    }
+}
+
+// The four fields that end the token.
+impl<'a> From<&NegTokenTarg<'a>> for TokenFields<'a> {
+    ghost from_gives = { λ t f. plain_fields f ≡ targ_fields (plain_targ t.now) };
+
+    fn from(token: &NegTokenTarg<'a>) -> TokenFields<'a> {
+        TokenFields {
+            first: token.neg_state,
+            second: token.supported_mech,
+            third: token.response_token,
+            fourth: token.mech_list_mic,
+        }
     }
 }

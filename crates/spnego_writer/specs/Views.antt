@@ -1,6 +1,6 @@
 -- What the code's values say.
 use Rattle.spnego_writer.specs.Writing.{Lens}
-use Rattle.spnego_writer.specs.declared.fields.Lengths.{Lengths}
+use Rattle.spnego_writer.specs.declared.lengths.Lengths.{Lengths}
 use Rattle.sspi.specs.declared.fault.Fault.{Fault}
 use Rattle.std.specs.Prelude.{Ok, Err, Result}
 

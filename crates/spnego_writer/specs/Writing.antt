@@ -6,17 +6,17 @@ use Rattle.der.specs.Reading.{and_then}
 use Rattle.der.specs.Writing.{invalid, element_len}
 use Rattle.spnego.specs.declared.part.Kind.{Kind}
 use Rattle.spnego.specs.declared.part.Kind.TheVariants.{Element, MechTypes, Oid, BitString, OctetString}
-use Rattle.spnego.specs.Tokens.{Fields, Targ, targ_fields, Init, init_fields}
+use Rattle.spnego.specs.Tokens.{wrapper, Fields, Targ, targ_fields, Init, init_fields}
 use Rattle.spnego.specs.Reading.{legal_test}
 use Rattle.sspi.specs.declared.fault.Fault.{Fault}
 
 -- a part of n bytes, as it stands inside its field
+abbrev pub wrapped_len : Option ℕ → ℕ → Result ℕ Fault
+wrapped_len None n = Ok n
+wrapped_len (Some t) n = element_len n
+
 abbrev pub inside_len : Kind → ℕ → Result ℕ Fault
-inside_len Element n = Ok n
-inside_len MechTypes n = Ok n
-inside_len Oid n = element_len n
-inside_len BitString n = element_len n
-inside_len OctetString n = element_len n
+inside_len k n = wrapped_len (wrapper k) n
 
 abbrev pub field_len : Kind → Option (List ℕ) → Result ℕ Fault
 field_len k None = Ok 0

@@ -2,8 +2,10 @@
 
 mod fields;
 mod init;
+mod lengths;
 mod part;
 mod targ;
+mod token;
 
 pub use init::write_init;
 pub use targ::write_targ;

@@ -1,21 +1,20 @@
 ghost use Rattle.std.specs.Prelude.{◌≡◌, ◌<◌, length};
-ghost use Rattle.der.specs.Elements.{element};
-ghost use Rattle.der.specs.Writing.{Puts};
+ghost use Rattle.der.specs.Writing.{Adds};
 ghost use Rattle.spnego.specs.Reading.{seen};
 ghost use Rattle.spnego.specs.Tokens.{field as fieldBytes, inside};
 ghost use Rattle.spnego_writer.specs.Writing.{inside_len, field_len};
 
-use der::{INVALID, element_len, put_bytes, put_element, put_header};
-use spnego::{Kind, is_legal};
+use der::{INVALID, Writer, element_len};
+use spnego::{Field, Kind};
 use sspi::Fault;
 
 // The length of a part of n bytes, as it stands inside its field.
 fn inside_len(kind: Kind, n: usize) -> Result<usize, Fault>
     ensures { result ≡ inside_len kind n }
 {
-    match kind {
-        Kind::Element | Kind::MechTypes => Ok(n),
-        Kind::Oid | Kind::BitString | Kind::OctetString => element_len(n),
+    match kind.wrapper() {
+        None => Ok(n),
+        Some(_) => element_len(n),
     }
 }
 
@@ -26,47 +25,31 @@ pub(crate) fn field_len(kind: Kind, part: Option<&[u8]>) -> Result<usize, Fault>
     let Some(part) = part else {
         return Ok(0);
     };
-    if !is_legal(kind, part) {
+    if !kind.is_legal(part) {
         return Err(INVALID);
     }
     element_len(inside_len(kind, part.len())?)
 }
 
 // Writes the part as it stands inside its field.
-fn put_inside(out: &mut [u8], at: usize, kind: Kind, part: &[u8]) -> Result<usize, Fault>
+fn put_inside(w: &mut Writer<'_>, kind: Kind, part: &[u8]) -> Result<(), Fault>
     requires { length (inside kind part.now) < 65536 }
-    ensures { Puts result out.old at (inside kind part.now) out.new }
+    ensures { Adds (inside kind part.now) w.old w.new result }
 {
-    match kind {
-        Kind::Element | Kind::MechTypes => put_bytes(out, at, part),
-        Kind::Oid => put_element(out, at, 0x06, part),
-        Kind::BitString => put_element(out, at, 0x03, part),
-        Kind::OctetString => put_element(out, at, 0x04, part),
+    match kind.wrapper() {
+        None => w.put_bytes(part),
+        Some(tag) => w.put_element(tag, part),
     }
-}
-
-// Writes a field that is there.
-fn put_present(out: &mut [u8], at: usize, tag: u8, kind: Kind, part: &[u8]) -> Result<usize, Fault>
-    requires { length (element tag (inside kind part.now)) < 65536 }
-    ensures { Puts result out.old at (element tag (inside kind part.now)) out.new }
-{
-    let at = put_header(out, at, tag, inside_len(kind, part.len())?)?;
-    put_inside(out, at, kind, part)
 }
 
 // Writes a field, which may be absent.
-pub(crate) fn put_field(
-    out: &mut [u8],
-    at: usize,
-    tag: u8,
-    kind: Kind,
-    part: Option<&[u8]>,
-) -> Result<usize, Fault>
-    requires { length (fieldBytes tag kind (seen part)) < 65536 }
-    ensures { Puts result out.old at (fieldBytes tag kind (seen part.entry)) out.new }
+pub(crate) fn put_field(w: &mut Writer<'_>, field: Field, part: Option<&[u8]>) -> Result<(), Fault>
+    requires { length (fieldBytes field.tag field.kind (seen part)) < 65536 }
+    ensures { Adds (fieldBytes field.tag field.kind (seen part.entry)) w.old w.new result }
 {
-    match part {
-        None => Ok(at),
-        Some(part) => put_present(out, at, tag, kind, part),
-    }
+    let Some(part) = part else {
+        return Ok(());
+    };
+    w.put_header(field.tag, inside_len(field.kind, part.len())?)?;
+    put_inside(w, field.kind, part)
 }

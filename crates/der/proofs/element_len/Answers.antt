@@ -1,6 +1,6 @@
 use Rattle.std.proofs.Common.{arith}
 use Rattle.der.proofs.Heads.{header_short, header_one, header_two}
-use Rattle.der.proofs.Overs.{len_at}
+use Rattle.der.proofs.Adding.{len_at}
 use Rattle.der.proofs.element_len.Goals as goal
 
 pub returns-then-n-lt128 : goal.returns-then-n-lt128

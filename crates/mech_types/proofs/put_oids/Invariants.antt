@@ -1,8 +1,8 @@
 use Rattle.std.proofs.Common.{take, Ok}
-use Rattle.der.specs.Writing.{Puts}
+use Rattle.der.specs.Writing.{Adds}
 use Rattle.mech_types.specs.Lists.{oids}
 use Rattle.mech_types.specs.Views.{plain_oids}
 use Rattle.mech_types.proofs.put_oids.Given as goal
 
 abbrev pub invariant-loop-oid : goal.invariant-loop-oid
-invariant-loop-oid l = Puts (Ok l.at) l.initial.out l.start (oids (plain_oids (take l.oid-index l.oids))) l.out
+invariant-loop-oid l = Adds (oids (plain_oids (take l.oid-index l.oids))) l.initial.w l.w (Ok tt)

@@ -1,10 +1,10 @@
-use Rattle.std.proofs.Common.{sym, ◌∙◌, arith}
+use Rattle.std.proofs.Common.{sym, ◌∙◌, arith, rules}
 use Rattle.std.proofs.lemmas.Result.{err_from_is_err_and}
 use Rattle.der.proofs.Ways.{err_ok, same_ok}
-use Rattle.der.proofs.Overs.{puts_header, puts_element, refused_element}
+use Rattle.der.proofs.Adding.{adds_element, refused_element}
+use Rattle.der.proofs.Promised.{writes_unfit, writes_short, writes_made, not_refused}
 use Rattle.mech_types.specs.Lists.{oids, mech_type_list}
 use Rattle.mech_types.specs.Views.{plain_oids}
-use Rattle.der.proofs.Promised.{writes_unfit, writes_short, writes_made}
 use Rattle.mech_types.proofs.Rows.{list_sizes, list_refused}
 use Rattle.mech_types.proofs.MechTypeList.write.Goals as goal
 
@@ -25,24 +25,29 @@ returns-then-branch c =
     let n = same_ok _ _ (c.in_ok-element_len.ensures ∙ z.token) in
     writes_short _ c.args.out.now z.good (omega (arith, n, c.if-branch.true))
 
-pub returns-in_err-at : goal.returns-in_err-at
+pub returns-in_err-put_header : goal.returns-in_err-put_header
 unfolding mech_type_list
-returns-in_err-at c =
+returns-in_err-put_header c =
     let z = list_sizes (plain_oids c.args.oids.now) c.in_ok-body.body c.in_ok-body.ensures in
     let n = same_ok _ _ (c.in_ok-element_len.ensures ∙ z.token) in
-    writes_made (mech_type_list (plain_oids c.args.oids.now)) c.args.out.now _ _ z.good (omega (arith, n, c.if-branch.false))
-    (refused_element _ _ _ _ _ (oids (plain_oids c.args.oids.now)) _ 0x30
-    (puts_header 0x30 _ c.in_ok-body.body _ _ _ _ z.body z.fits c.in_err-at.ensures.answer c.put_header.ensures.holds))
+    absurd (not_refused {e = c.in_err-put_header.field-0.0} c.args.out.now (omega (arith, n, c.if-branch.false)) c.new-w.ensures.room
+    (refused_element 0x30 (oids (plain_oids c.args.oids.now)) z.body z.fits c.in_err-put_header.ensures))
 
 pub put_oids-requires : goal.put_oids-requires
 put_oids-requires c = (list_sizes (plain_oids c.args.oids.now) c.in_ok-body.body c.in_ok-body.ensures).good.short
+
+pub returns-in_err-put_oids : goal.returns-in_err-put_oids
+unfolding mech_type_list
+returns-in_err-put_oids c =
+    let z = list_sizes (plain_oids c.args.oids.now) c.in_ok-body.body c.in_ok-body.ensures in
+    let n = same_ok _ _ (c.in_ok-element_len.ensures ∙ z.token) in
+    absurd (not_refused c.args.out.now (omega (arith, n, c.if-branch.false)) c.new-w.ensures.room
+    (adds_element 0x30 z.body z.fits c.in_ok-put_header.ensures c.in_err-put_oids.ensures))
 
 pub returns : goal.returns
 unfolding mech_type_list
 returns c =
     let z = list_sizes (plain_oids c.args.oids.now) c.in_ok-body.body c.in_ok-body.ensures in
     let n = same_ok _ _ (c.in_ok-element_len.ensures ∙ z.token) in
-    writes_made (mech_type_list (plain_oids c.args.oids.now)) c.args.out.now _ _ z.good (omega (arith, n, c.if-branch.false))
-    (puts_element _ _ _ _ (oids (plain_oids c.args.oids.now)) _ _ 0x30
-    (puts_header 0x30 _ c.in_ok-body.body _ _ _ _ z.body z.fits c.in_ok-at.ensures.answer c.put_header.ensures.holds)
-    c.put_oids.ensures)
+    writes_made c.args.out.now _ _ z.good (omega (arith, n, c.if-branch.false)) c.new-w.ensures.written c.new-w.ensures.room
+    (adds_element 0x30 z.body z.fits c.in_ok-put_header.ensures c.in_ok-put_oids.ensures) (search rules) c.len.ensures
