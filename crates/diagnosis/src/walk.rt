@@ -1,5 +1,6 @@
 ghost use Rattle.std.specs.Prelude.{◌≡◌, ◌<◌, IfOk, IsErr, length};
 
+use spnego::{Kind, Layout};
 use std::fmt;
 
 // What is wrong at a place of a token; tags and bytes are named by their values.
@@ -81,34 +82,6 @@ impl fmt::Display for Trouble {
 struct Part<'a> {
     bytes: &'a [u8],
     offset: usize,
-}
-
-// What a field holds.
-#[derive(Clone, Copy)]
-enum Kind {
-    Element,
-    MechTypes,
-    Oid,
-    BitString,
-    OctetString,
-}
-
-// A field of a sequence, and whether it was seen.
-#[derive(Clone, Copy)]
-struct Field {
-    tag: u8,
-    kind: Kind,
-    seen: bool,
-}
-
-impl Field {
-    fn new(tag: u8, kind: Kind) -> Field {
-        Field {
-            tag,
-            kind,
-            seen: false,
-        }
-    }
 }
 
 impl<'a> Part<'a> {
@@ -262,29 +235,24 @@ impl<'a> Part<'a> {
     }
 
     // Whether this is a sequence of the four fields.
-    fn sequence(self, first: Kind, second: Kind) -> Result<(), Trouble> {
+    fn sequence(self, layout: Layout) -> Result<(), Trouble> {
         let mut rest = self.only(0x30)?;
-        let mut fields = [
-            Field::new(0xa0, first),
-            Field::new(0xa1, second),
-            Field::new(0xa2, Kind::OctetString),
-            Field::new(0xa3, Kind::OctetString),
-        ];
-        for field in &mut fields {
+        let mut fields = layout.fields().map(|field| (field, false));
+        for (field, seen) in &mut fields {
             if rest.tag()? == Some(field.tag) {
                 let (content, others) = rest.take()?;
                 content.inner(field.kind)?;
-                field.seen = true;
+                *seen = true;
                 rest = others;
             }
         }
         let Some(tag) = rest.tag()? else {
             return Ok(());
         };
-        let reason = match fields.iter().find(|field| field.tag == tag) {
+        let reason = match fields.iter().find(|(field, _)| field.tag == tag) {
             None => Reason::Unknown(tag),
-            Some(field) if field.seen => Reason::Repeated(tag),
-            Some(_) => Reason::OutOfOrder(tag),
+            Some((_, true)) => Reason::Repeated(tag),
+            Some((_, false)) => Reason::OutOfOrder(tag),
         };
         rest.fail(0, reason)
     }
@@ -301,9 +269,9 @@ pub fn explain(token: &[u8]) -> Result<(), Trouble> {
         Some(0x60) => {
             let (mech, rest) = part.only(0x60)?.take_tagged(0x06)?;
             mech.oid()?;
-            rest.only(0xa0)?.sequence(Kind::MechTypes, Kind::BitString)
+            rest.only(0xa0)?.sequence(Layout::INIT)
         }
-        Some(0xa1) => part.only(0xa1)?.sequence(Kind::Element, Kind::Oid),
+        Some(0xa1) => part.only(0xa1)?.sequence(Layout::TARG),
         Some(tag) => part.fail(0, Reason::NoToken(tag)),
     }
 }
