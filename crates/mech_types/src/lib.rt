@@ -58,7 +58,8 @@ impl<'a> MechTypeList<'a> {
         Some((oid, MechTypeList { oids }))
     }
 
-    // Writes the list of these object identifiers to the front of `out`, and gives its length.
+    // Writes the list of these object identifiers to the front of `out`, and gives its length. The steps are those of a token, whose trait
+    // stands in a crate above.
     pub fn write(oids: &[&[u8]], out: &mut [u8]) -> Result<usize, Fault>
         ensures { Writes (GoodList (plain_oids oids.now)) (mech_type_list (plain_oids oids.now)) out.old out.new result }
     {

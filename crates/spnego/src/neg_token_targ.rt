@@ -36,7 +36,7 @@ impl<'a> NegTokenTarg<'a> {
     }
 }
 
-// The four fields that end the token.
+// The four fields of the token, which has other names for them than `NegTokenInit`.
 impl<'a> From<&NegTokenTarg<'a>> for TokenFields<'a> {
     ghost from_gives = { λ t f. plain_fields f ≡ targ_fields (plain_targ t.now) };
 
