@@ -34,6 +34,7 @@ pub fn generate_mech_type_list(kerberos: bool, ntlm: bool, out: &mut [u8]) -> Re
 }
 
 // Writes the initiator's first token: the list of mechanisms, and a token of the first of them.
+#[tactic(auto, using(crate::proofs::Sizes::init_sent))]
 pub fn generate_neg_token_init<'a>(
     mech_list: &'a [u8],
     mech_token: Option<&'a [u8]>,
@@ -54,6 +55,7 @@ pub fn generate_neg_token_init<'a>(
 }
 
 // Writes the acceptor's first reply, which names the mechanism chosen.
+#[tactic(auto, using(crate::proofs::Sizes::reply_sent))]
 pub fn generate_neg_token_targ(
     neg_result: NegState,
     mech_type: Mech,
@@ -74,24 +76,18 @@ pub fn generate_neg_token_targ(
 }
 
 // Writes a token on the way to an agreement.
+#[tactic(auto, using(crate::proofs::Sizes::next_sent))]
 pub fn generate_neg_token_targ_1(
     response_token: Option<&[u8]>,
     out: &mut [u8],
 ) -> Result<usize, Fault>
     ensures { TargSent 21 (Unit {0}) (next_token (seen response_token.entry)) out.old out.new result }
 {
-    write_targ(
-        &NegTokenTarg {
-            neg_state: Some(NegState::Incomplete.bytes()),
-            supported_mech: None,
-            response_token,
-            mech_list_mic: None,
-        },
-        out,
-    )
+    generate_final_neg_token_targ(NegState::Incomplete, response_token, None, out)
 }
 
 // Writes a party's last token, perhaps with a MIC over the list of mechanisms.
+#[tactic(auto, using(crate::proofs::Sizes::final_sent))]
 pub fn generate_final_neg_token_targ<'a>(
     neg_result: NegState,
     response_token: Option<&'a [u8]>,

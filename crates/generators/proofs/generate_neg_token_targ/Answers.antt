@@ -1,7 +1,0 @@
-use Rattle.std.proofs.Common.{rules}
-use Rattle.spnego.specs.Reading.{seen}
-use Rattle.generators.proofs.Sizes.{reply_sent}
-use Rattle.generators.proofs.generate_neg_token_targ.Goals as goal
-
-pub returns : goal.returns
-returns c = reply_sent c.args.neg_result c.args.mech_type (seen c.args.response_token) c.args.out.now c.write_targ.new.out c.write_targ.result (search rules)
