@@ -7,7 +7,7 @@ const INVALID: Fault = Fault {
 };
 
 // Each row is refused as invalid: `refusal` reads it, and gives the refusal if there is one.
-pub fn refused<F: Fn(&[u8]) -> Option<Fault>>(rt: &impl Abort, refusal: F, rows: &[&[u8]])
+pub(crate) fn refused<F: Fn(&[u8]) -> Option<Fault>>(rt: &impl Abort, refusal: F, rows: &[&[u8]])
     requires { F.IsAlwaysCallable refusal }
 {
     for row in rows {
