@@ -6,7 +6,7 @@ const INVALID: Fault = Fault {
     layer: Layer::Negotiation,
 };
 
-// Each row is refused as invalid: `refusal` reads it, and gives the refusal if there is one.
+// Each row is refused as invalid: `refusal` reads it, and gives the refusal if there is one. The reader's tests have such a loop too: no crate of tests uses another.
 pub(crate) fn refused<F: Fn(&[u8]) -> Option<Fault>>(rt: &impl Abort, refusal: F, rows: &[&[u8]])
     requires { F.IsAlwaysCallable refusal }
 {

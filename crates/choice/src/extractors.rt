@@ -77,7 +77,7 @@ fn position(list: MechTypeList<'_>, oid: &[u8]) -> Option<usize>
 }
 
 // The acceptor's choice from a list of mechanisms as it was received: the number of the mechanism, and its first place.
-// The answer is a pair of plain numbers, as the original gives it.
+// The answer is a pair of plain numbers, which is a rule of this project.
 pub fn negotiate_mech_type(
     mech_types: &[u8],
     enabled: PackageListConfig,

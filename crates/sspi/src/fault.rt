@@ -17,7 +17,7 @@ pub enum Layer {
 }
 
 impl Layer {
-    // The layer's name.
+    // The layer's name, which needs no writer.
     pub fn name(self) -> &'static str
         ensures { result.now ≡ layer_name self }
     {
@@ -52,7 +52,7 @@ pub struct Fault {
     pub layer: Layer,
 }
 
-// Equal where kind and layer are.
+// Equal where kind and layer are. By hand, as the equality of kinds is.
 impl PartialEq for Fault {
     ghost eq = { eq_of_both (on (λ f. kind_number f.kind) nat_eq) (on (λ f. layer_number f.layer) nat_eq) };
 
