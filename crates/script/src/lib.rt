@@ -5,6 +5,7 @@ ghost use Rattle.books.specs.Books.{book_or_empty};
 ghost use Rattle.mechanism.specs.Promises.{step_front, Within};
 ghost use Rattle.script.specs.Lawful.{script_lawful};
 ghost use Rattle.script.specs.Plays.{Begins, moves_on, starts, after, mic_of, told, plain_told, played, script_sealing, script_stepping};
+ghost use Rattle.std.proofs.Common.{rules};
 ghost use Rattle.std.specs.Str.{bytes_eq};
 
 use books::Book;
@@ -121,6 +122,8 @@ fn takes(data: &[u8], mic: &[u8]) -> bool
 impl<'a> Mechanism for Script<'a> {
     ghost stepping = { script_stepping };
 
+    ghost lawful_steps = { Prim.search rules };
+
     fn fresh(&mut self, kdc: Option<u32>) {
         self.pos = 0;
         self.session = false;
@@ -150,9 +153,5 @@ impl<'a> Mechanism for Script<'a> {
     fn allow(&mut self, identity: &Identity, new_set: bool) -> Result<(), Fault> {
         self.count = self.count.wrapping_add(1);
         Ok(())
-    }
-
-    fn lawful_steps(&self) -> u8 {
-        0
     }
 }
