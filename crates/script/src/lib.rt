@@ -3,9 +3,9 @@
 ghost use Rattle.std.specs.Prelude.{◌≡◌, ◌<◌, length};
 ghost use Rattle.books.specs.Books.{book_or_empty};
 ghost use Rattle.mechanism.specs.Promises.{step_front, Within};
-ghost use Rattle.script.specs.Lawful.{script_lawful};
 ghost use Rattle.script.specs.Plays.{Begins, moves_on, starts, after, mic_of, told, plain_told, played, script_sealing, script_stepping};
 ghost use Rattle.std.proofs.Common.{rules};
+ghost use Rattle.std.proofs.lemmas.Slice.Eq.{bytes_eq-Decides};
 ghost use Rattle.std.specs.Str.{bytes_eq};
 
 use books::Book;
@@ -92,7 +92,7 @@ fn play(entry: &[u8], work: &mut [u8]) -> Result<(SecurityStatus, usize), Fault>
 impl<'a> Sealer for Script<'a> {
     ghost sealing = { script_sealing };
 
-    ghost lawful = { script_lawful };
+    ghost lawful = { Prim.search (rules, bytes_eq-Decides) };
 
     fn make(&mut self, data: &[u8], mic: &mut [u8; 160]) -> Result<usize, Fault> {
         may_seal(data, self.session)?;
