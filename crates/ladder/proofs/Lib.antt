@@ -1,3 +1,2 @@
 pub mod Paddings
 pub mod Puts
-pub mod Lawful

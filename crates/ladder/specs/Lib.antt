@@ -3,3 +3,4 @@ pub mod Rungs
 pub mod Mics
 pub mod Givens
 pub mod Steps
+pub mod Lawful

@@ -1,4 +1,5 @@
 ghost use Rattle.std.specs.Prelude.{◌≡◌, ◌≤◌, length};
+ghost use Rattle.ladder.specs.Lawful.{ladder_lawful_steps};
 ghost use Rattle.ladder.specs.Rungs.{accepted, called};
 ghost use Rattle.ladder.specs.Steps.{rests, begins, is_leg, name_heard, topped, status_at, climbed, onward, Did, ladder_stepping};
 
@@ -111,6 +112,8 @@ impl Ladder {
 impl Mechanism for Ladder {
     ghost stepping = { ladder_stepping };
 
+    ghost lawful_steps = { ladder_lawful_steps };
+
     fn fresh(&mut self, kdc: Option<u32>) {
         *self = Ladder::start(self.legs);
     }
@@ -150,10 +153,5 @@ impl Mechanism for Ladder {
             self.allowed_key = Some(padded(identity.secret.as_slice()));
         }
         Ok(())
-    }
-
-    #[tactic(auto, using(crate::proofs::Lawful::lawful))]
-    fn lawful_steps(&self) -> u8 {
-        0
     }
 }

@@ -44,8 +44,6 @@ impl Side {
 pub trait Sealer {
     ghost sealing: { Sealing Self };
 
-    ghost lawful: { LawfulSealing sealing };
-
     // Writes the MIC over the data to the front of `mic`, and gives its length.
     fn make(&mut self, data: &[u8], mic: &mut [u8; 160]) -> Result<usize, Fault>
         ensures { Makes sealing self.old «data».now mic.old self.new mic.new result };
@@ -53,6 +51,9 @@ pub trait Sealer {
     // Accepts the MICs over the data that are taken, and refuses every other.
     fn check(&mut self, data: &[u8], mic: &[u8]) -> Result<(), Fault>
         ensures { Checks sealing self.old «data».now mic.now self.new result };
+
+    // What is owed besides: MICs of at most 160 bytes, the MIC law, and what holds of notes.
+    ghost lawful: { LawfulSealing sealing };
 }
 
 // A security mechanism: it takes steps with tokens until its session is up, and then seals.
@@ -82,7 +83,6 @@ pub trait Mechanism: Sealer {
     fn allow(&mut self, identity: &Identity, new_set: bool) -> Result<(), Fault>
         ensures { Allows stepping self.old (who identity.now) new_set self.new result };
 
-    // What the steps owe besides; the answer says nothing.
-    fn lawful_steps(&self) -> u8
-        ensures { LawfulStepping Self.Sealer.sealing stepping };
+    // What the steps owe besides.
+    ghost lawful_steps: { LawfulStepping Self.Sealer.sealing stepping };
 }

@@ -1,2 +1,1 @@
 pub mod Plays
-pub mod Lawful

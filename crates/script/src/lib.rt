@@ -3,8 +3,9 @@
 ghost use Rattle.std.specs.Prelude.{◌≡◌, ◌<◌, length};
 ghost use Rattle.books.specs.Books.{book_or_empty};
 ghost use Rattle.mechanism.specs.Promises.{step_front, Within};
-ghost use Rattle.script.specs.Lawful.{script_lawful};
 ghost use Rattle.script.specs.Plays.{Begins, moves_on, starts, after, mic_of, told, plain_told, played, script_sealing, script_stepping};
+ghost use Rattle.std.proofs.Common.{rules};
+ghost use Rattle.std.proofs.lemmas.Slice.Eq.{bytes_eq-Decides};
 ghost use Rattle.std.specs.Str.{bytes_eq};
 
 use books::Book;
@@ -91,7 +92,7 @@ fn play(entry: &[u8], work: &mut [u8]) -> Result<(SecurityStatus, usize), Fault>
 impl<'a> Sealer for Script<'a> {
     ghost sealing = { script_sealing };
 
-    ghost lawful = { script_lawful };
+    ghost lawful = { Prim.search (rules, bytes_eq-Decides) };
 
     fn make(&mut self, data: &[u8], mic: &mut [u8; 160]) -> Result<usize, Fault> {
         may_seal(data, self.session)?;
@@ -120,6 +121,8 @@ fn takes(data: &[u8], mic: &[u8]) -> bool
 
 impl<'a> Mechanism for Script<'a> {
     ghost stepping = { script_stepping };
+
+    ghost lawful_steps = { Prim.search rules };
 
     fn fresh(&mut self, kdc: Option<u32>) {
         self.pos = 0;
@@ -150,9 +153,5 @@ impl<'a> Mechanism for Script<'a> {
     fn allow(&mut self, identity: &Identity, new_set: bool) -> Result<(), Fault> {
         self.count = self.count.wrapping_add(1);
         Ok(())
-    }
-
-    fn lawful_steps(&self) -> u8 {
-        0
     }
 }

@@ -1,4 +1,4 @@
--- The laws of the steps.
+-- Proofs of the laws of the steps.
 use Rattle.std.proofs.Common.{◌≡◌, ℕ, ◌+◌, ◌≤◌, eqb, ltb, List, [], length, Some, None, Ok, Err, Option, sym, refl, ap, zero-le, arith, length-take}
 use Rattle.ladder.specs.Givens.{Given, given}
 use Rattle.ladder.specs.Mics.{ladder_sealing}
@@ -74,8 +74,8 @@ name_layer_lem : (o : Option Part) → OfMechanism (name_in o)
 name_layer_lem None = refusal_layer NoContext
 name_layer_lem (Some p) = ok_layer (held p)
 
-pub lawful : LawfulStepping ladder_sealing ladder_stepping
-lawful = record {
+pub ladder_lawful_steps : LawfulStepping ladder_sealing ladder_stepping
+ladder_lawful_steps = record {
   fits = λ s by _ i x w st token h. (fine_walked s (given by i x) w).fits st token h;
   named = λ s name h. name_short s.account name h;
   step_layer = λ s by _ i x w. (fine_walked s (given by i x) w).layer;
