@@ -12,10 +12,6 @@ use Rattle.der.specs.Writing.{room, element_len, invalid, too_small, Puts, Adds}
 pub puts_as : {Good : Type 0} {bytes hs : List ℕ} {w v : Writer} {r : Result (Unit {0}) Fault} → Good → hs ≡ bytes → Puts (Unit {0}) hs w v r → Puts Good bytes w v r
 puts_as g e p = rw (← e) (record { lent = p.lent; unfit = λ bad. absurd (bad g); short = λ _. p.short tt; made = λ _. p.made tt })
 
--- a refusal
-pub puts_unfit : {Good : Type 0} {bytes : List ℕ} {w : Writer} → (Good → ⊥) → Puts Good bytes w w (Err invalid)
-puts_unfit bad = record { lent = refl; unfit = λ _. (refl, record { place = refl; buffer = refl }); short = λ g. absurd (bad g); made = λ g. absurd (bad g) }
-
 pub puts_short : {Good : Type 0} {bytes : List ℕ} {w : Writer} → Good → length (room w) < length bytes → Puts Good bytes w w (Err too_small)
 puts_short g l =
     record { lent = refl; unfit = λ bad. absurd (bad g); short = λ _ _. (refl, record { place = refl; buffer = refl }); made = λ _ k. absurd (omega arith) }

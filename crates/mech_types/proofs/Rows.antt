@@ -1,15 +1,13 @@
 -- Writing a list of object identifiers: the loops over them, and the computed length.
-use Rattle.std.proofs.Common.{◌≡◌, ℕ, suc, ◌+◌, ◌<◌, ◌≤◌, true, ltb, cond, List, [], ◌∷◌, ◌++◌, length, get_or, take, drop, Ok, Err, Result, sym, refl, ap, ◌∙◌, inl, inr, ⊎_elim, add-zero, arith, length-append, Bor}
+use Rattle.std.proofs.Common.{◌≡◌, ℕ, suc, ◌+◌, ◌<◌, true, ltb, cond, List, [], ◌∷◌, ◌++◌, length, get_or, take, drop, Ok, Err, Result, sym, refl, ap, ◌∙◌, inl, inr, ⊎_elim, add-zero, arith, length-append, Bor}
 use Rattle.std.proofs.Math.Seq.{split_at}
 use Rattle.std.proofs.lemmas.Grind.{flat_map-append}
-use Rattle.std.proofs.lemmas.List.{append-nil, map-append, take_more, at_drop_more, at_drop_all}
+use Rattle.std.proofs.lemmas.List.{append-nil, map-append, take_more}
 use Rattle.std.proofs.lemmas.Bool.{cases_lt, lt-ltb, le-ltb, and_parts, and_from, cond-true, cond-false}
 use Rattle.sspi.specs.declared.fault.Fault.{Fault}
 use Rattle.der.specs.Elements.{element, oid}
-use Rattle.der.specs.Reading.{and_then}
 use Rattle.der.specs.declared.writer.Writer.{Writer}
 use Rattle.der.specs.Writing.{element_len, invalid, Puts, Adds}
-use Rattle.der.proofs.Ways.{goes_on}
 use Rattle.der.proofs.Measures.{Measures, measured, unmeasured, measures_as, measures_then, measures_if, element_measures}
 use Rattle.der.proofs.Taking.{length-element}
 use Rattle.der.proofs.Adding.{element_len_lem, adds, adds_then, adds_refused}
@@ -19,21 +17,6 @@ use Rattle.mech_types.specs.Writing.{add_oid, oids_len_from}
 
 abbrev Refs : Type 0
 Refs = List (Bor (List ℕ))
-
--- the loop over the lengths
-len_at : (n : ℕ) (rs : Refs) (i : ℕ) (d : Bor (List ℕ)) → i < length rs
-    → oids_len_from n (plain_oids (drop i rs)) ≡ and_then (add_oid n (get_or rs i d).now) (λ m. oids_len_from m (plain_oids (drop (i + 1) rs)))
-len_at n rs i d l = at_drop_more (λ xs. oids_len_from n (plain_oids xs)) rs i d l
-
-pub len_refused : (n : ℕ) (rs : Refs) (i : ℕ) (d : Bor (List ℕ)) (e : Fault) → i < length rs → Err e ≡ add_oid n (get_or rs i d).now → oids_len_from n (plain_oids (drop i rs)) ≡ Err e
-len_refused n rs i d e l r = len_at n rs i d l ∙ ap (λ v. and_then v (λ m. oids_len_from m (plain_oids (drop (i + 1) rs)))) (sym r)
-
-pub len_more : (n m : ℕ) (rs : Refs) (i : ℕ) (d : Bor (List ℕ)) → i < length rs → Ok m ≡ add_oid n (get_or rs i d).now
-    → oids_len_from m (plain_oids (drop (i + 1) rs)) ≡ oids_len_from n (plain_oids (drop i rs))
-len_more n m rs i d l r = sym (len_at n rs i d l ∙ goes_on (λ k. oids_len_from k (plain_oids (drop (i + 1) rs))) (sym r))
-
-pub len_all : (n : ℕ) (rs : Refs) (i : ℕ) → length rs ≤ i → oids_len_from n (plain_oids (drop i rs)) ≡ Ok n
-len_all n rs i l = at_drop_all (λ xs. oids_len_from n (plain_oids xs)) rs i l
 
 -- one object identifier more: the length is that of the writing, and is given just for lists that can be written
 short_measures : (n : ℕ) → Measures (n < 65536) n (cond (ltb 65535 n) (Err invalid) (Ok n))
@@ -46,9 +29,6 @@ add_measures n o =
     let m = length-element 0x06 o in
     measures_as (λ g. (g.0, g.1.1)) (λ g. (g.0, (omega (arith, g.1), g.1))) refl
     (measures_if (oid o) (measures_then _ (element_measures 0x06 o) (λ _. short_measures (n + length (element 0x06 o)))))
-
-pub add_bound : (n m : ℕ) (o : List ℕ) → Ok m ≡ add_oid n o → m ≤ 65535
-add_bound n m o r = let p = measured _ _ (add_oid n o) m (add_measures n o) (sym r) in omega (arith, p.0.1, p.1)
 
 rows_measures : (os : List (List ℕ)) (n : ℕ) → n < 65536 → Measures ((all_oids os ≡ true) × (n + length (oids os) < 65536)) (n + length (oids os)) (oids_len_from n os)
 unfolding oids all_oids
