@@ -121,7 +121,7 @@ impl<'a> Book<'a> {
     }
 }
 
-// The entries of a book that are still to come.
+// The entries of a book that are still to come, from entry `at` on. The place is kept, and not the pairs left, since `entry` finds an entry by it.
 #[derive(Drop)]
 pub struct Entries<'a> {
     book: Book<'a>,

@@ -68,6 +68,7 @@ impl Acceptor {
 fn position(list: MechTypeList<'_>, oid: &[u8]) -> Option<usize>
     ensures { result ≡ place_of oid.now (items list.entry) }
 {
+    // A loop: with `list.position(..)` the contract did not follow.
     for (i, listed) in list.enumerate() {
         if listed == oid {
             return Some(i);

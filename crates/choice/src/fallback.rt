@@ -13,6 +13,7 @@ pub const NTLM_FALLBACK_ERROR_KINDS: [ErrorKind; 4] = [
 ];
 
 // Whether a fault of this kind leads from Kerberos to NTLM.
+#[tactic(auto, unfolding(crate::specs::Fallback::falls_back))]
 pub fn leads_to_ntlm(kind: ErrorKind) -> bool
     ensures answer { result ≡ falls_back kind }
     ensures exactly { Decides result (Among kind fallback_kinds) }

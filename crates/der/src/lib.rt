@@ -69,6 +69,7 @@ pub fn only(input: &[u8], tag: u8) -> Result<&[u8], Fault>
 }
 
 // Whether one element, of any tag, fills the input.
+#[tactic(auto, unfolding(crate::specs::Reading::one_element))]
 pub fn is_element(input: &[u8]) -> bool
     ensures { result ≡ one_element input.now }
 {

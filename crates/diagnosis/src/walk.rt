@@ -1,4 +1,5 @@
-ghost use Rattle.std.specs.Prelude.{◌≡◌, ◌<◌, IfOk, IsErr, length};
+ghost use Rattle.std.specs.Prelude.{◌≡◌, IsErr};
+ghost use Rattle.diagnosis.specs.Walk.{Shorter};
 
 use spnego::{Kind, Layout};
 use std::fmt;
@@ -115,7 +116,7 @@ impl<'a> Part<'a> {
 
     // The length of the content, and what follows the length.
     fn length(self) -> Result<(usize, Part<'a>), Trouble>
-        ensures shorter { IfOk result (λ x. length x.1.bytes.now < length self.entry.bytes.now) }
+        ensures { Shorter self.entry result }
     {
         match self.bytes {
             [] => self.fail(0, Reason::NoElement),
@@ -135,7 +136,7 @@ impl<'a> Part<'a> {
 
     // The content of the element at the front, and what follows it.
     fn take(self) -> Result<(Part<'a>, Part<'a>), Trouble>
-        ensures shorter { IfOk result (λ x. length x.1.bytes.now < length self.entry.bytes.now) }
+        ensures { Shorter self.entry result }
     {
         self.tag()?;
         let (n, body) = self.length()?;
@@ -158,7 +159,7 @@ impl<'a> Part<'a> {
 
     // The content of the element at the front, which has this tag, and what follows it.
     fn take_tagged(self, wanted: u8) -> Result<(Part<'a>, Part<'a>), Trouble>
-        ensures shorter { IfOk result (λ x. length x.1.bytes.now < length self.entry.bytes.now) }
+        ensures { Shorter self.entry result }
     {
         self.expect(wanted)?;
         self.take()

@@ -6,7 +6,7 @@ ghost use Rattle.std.specs.Str.{bytes_eq};
 #[derive(Clone, Copy, PartialEq, Eq, Debug)]
 pub struct Unnamed;
 
-// A type whose values have fixed byte strings, each as `spelling` says.
+// A type whose values have fixed byte strings, each as `spelling` says. `TryFrom` is std's, and so are slices: each type has its own impl.
 pub(crate) trait Named: Copy {
     ghost spelling: { Self → List ℕ };
 

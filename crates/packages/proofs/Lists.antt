@@ -1,4 +1,5 @@
 -- What a package list says, entry by entry, and its laws.
+use Rattle.std.proofs.lemmas.Str.Ascii.{lowercase-lowercase}
 use Rattle.std.proofs.Common.{◌≡◌, ℕ, ◌<◌, Bool, true, false, cond, not, ◌&&◌, ◌||◌, eqb, List, [], ◌∷◌, map, drop, Some, None, Option, sym, refl, ap, ◌∙◌, arith, lit<}
 use Rattle.packages.specs.Packages.{negative, positive, name_of, names, or_else, or_option, says, all_switch_off, named, opens, entries, each, parsed, ntlm_name, kerberos_name, pku2u_name}
 use Rattle.packages.specs.Walk.{flag_after, after}
@@ -88,12 +89,9 @@ each_single text one h = simp one (cc (only_one ntlm_name text h, only_one kerbe
 lower_mark : (x m : ℕ) → m < 65 → eqb (to_ascii_lowercase x) m ≡ eqb x m
 lower_mark x m l = grind (arith, nat_tests)
 
-lower_twice : (x : ℕ) → to_ascii_lowercase (to_ascii_lowercase x) ≡ to_ascii_lowercase x
-lower_twice x = grind (arith, nat_tests)
-
 small_twice : (xs : List ℕ) → small (small xs) ≡ small xs
 small_twice [] = refl
-small_twice (x ∷ xs) = cc (lower_twice x, small_twice xs)
+small_twice (x ∷ xs) = cc (lowercase-lowercase x, small_twice xs)
 
 longer-small : (x : ℕ) (ps : List (List ℕ)) → longer (to_ascii_lowercase x) (map small ps) ≡ map small (longer x ps)
 longer-small x [] = refl

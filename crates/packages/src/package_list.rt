@@ -93,7 +93,7 @@ fn flag_after(flag: bool, name: &[u8], wanted: &[u8], off: bool) -> bool
     }
 }
 
-// Whether an entry begins with `!`, and the name in it.
+// Whether an entry begins with `!`, and the name in it, which is there in both cases.
 fn split_sign(entry: &[u8]) -> (bool, &[u8])
     ensures sign { result.0 ≡ negative entry.now }
     ensures name { result.1.now ≡ name_of entry.now }

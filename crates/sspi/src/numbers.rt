@@ -5,7 +5,8 @@ ghost use Rattle.std.specs.List.{find};
 #[derive(Clone, Copy, PartialEq, Eq, Debug)]
 pub struct UnknownNumber(pub u32);
 
-// A type whose values have numbers, each as `number_of` says.
+// A type whose values have numbers, each as `number_of` says. `From` and `TryFrom` are std's, and so are numbers: one impl of them for every such
+// type is not allowed, so each type has its own.
 pub(crate) trait Numbered: Copy {
     ghost number_of: { Self → ℕ };
 

@@ -21,6 +21,7 @@ pub fn split_once(text: &[u8], mark: u8) -> (&[u8], Option<&[u8]>)
 }
 
 // The pieces of the text between the marks, in order.
+#[tactic(auto, using(crate::proofs::Cuts::pieces_count))]
 pub fn pieces(text: &[u8], mark: u8) -> Pieces<'_>
     ensures all { pieces_left result ≡ pieces mark text.now }
     ensures count { length (pieces_left result) ≤ length text.now + 1 }

@@ -14,16 +14,16 @@ fn main(rt: HostRuntime) -> anyhow::Result<()> {
 fn run(rt: &HostRuntime) -> anyhow::Result<()> {
     let mut number = 0u64;
     for line in BufReader::new(rt.alloc(), rt.stdin())?.split(rt.alloc(), b'\n') {
-        match Line::read(rt.alloc(), line?.as_slice())? {
-            Line::Passed => {}
-            Line::NotHex => {
-                number = number.saturating_add(1);
-                println!(rt; "token {number}: not hexadecimal")?;
-            }
-            Line::Token(token) => {
-                number = number.saturating_add(1);
-                show(rt, number, token.as_slice())?;
-            }
+        let token = match Line::read(rt.alloc(), line?.as_slice())? {
+            Line::Passed => continue,
+            Line::NotHex => None,
+            Line::Token(token) => Some(token),
+        };
+        number = number.saturating_add(1);
+        print!(rt; "token {number}: ")?;
+        match token {
+            None => println!(rt; "not hexadecimal")?,
+            Some(token) => show(rt, token.as_slice())?,
         }
     }
     Ok(())
