@@ -1,11 +1,12 @@
 #![tactic(auto)]
 
-ghost use Rattle.climb.specs.Tops.{Climbed};
+ghost use Rattle.std.specs.Prelude.{◌≡◌, ◌↔◌, Ok};
+ghost use Rattle.climb.specs.Tops.{Agree, Climbed};
 ghost use Rattle.ladder.specs.Rungs.{legs_of};
 ghost use Rattle.mechanism.specs.Identities.{who};
 
 use ladder::Ladder;
-use mechanism::{Identity, Mechanism, Side};
+use mechanism::{Identity, Mechanism, Side, carry};
 use sspi::Fault;
 
 // The longest leg: its number and the name of an account.
@@ -31,7 +32,7 @@ pub fn climb(legs: u8, client: &Identity, allowed: &Identity) -> Result<Climbers
     let mut called = [0; LONGEST];
     let mut answered = [0; LONGEST];
     let mut len = 0;
-    for round in 0..ROUNDS {
+    for _round in 0..ROUNDS {
         let (_, sent) = below.step(Side::Client, 0, Some(client), &answered[..len], &mut called)?;
         let (_, back) = above.step(Side::Server, 0, None, &called[..sent], &mut answered)?;
         len = back;
@@ -40,4 +41,19 @@ pub fn climb(legs: u8, client: &Identity, allowed: &Identity) -> Result<Climbers
         client: below,
         server: above,
     })
+}
+
+// Lets both climb, and then each take the other's MIC, which is made over `sent`, for `heard`.
+pub fn exchange(
+    legs: u8,
+    client: &Identity,
+    allowed: &Identity,
+    sent: &[u8],
+    heard: &[u8],
+) -> Result<(), Fault>
+    ensures { result ≡ Ok tt ↔ Agree (who client.now) (who allowed.now) sent.now heard.now }
+{
+    let mut top = climb(legs, client, allowed)?;
+    carry(&mut top.client, &mut top.server, sent, heard)?;
+    carry(&mut top.server, &mut top.client, sent, heard)
 }

@@ -31,5 +31,5 @@ loop-round-preserved c =
 
 pub returns : goal.returns
 returns c =
-    reached (legs_of c.args.legs) (who c.args.client.now) (who c.args.allowed.now) c.loop-round.round c.loop-round.below c.loop-round.above _
+    reached (legs_of c.args.legs) (who c.args.client.now) (who c.args.allowed.now) c.loop-round._round c.loop-round.below c.loop-round.above _
     (account_short c.args.client.now) (legs_between c.args.legs).1 (omega arith) c.loop-round.invariant.stands

@@ -7,5 +7,5 @@ use Rattle.mechanism.specs.Identities.{who}
 abbrev pub invariant-loop-round : goal.invariant-loop-round
 invariant-loop-round l = record {
   short : l.len ≤ 65;
-  stands : Standing (legs_of l.legs) (who l.client) (who l.allowed) l.round l.below l.above (take l.len l.answered);
+  stands : Standing (legs_of l.legs) (who l.client) (who l.allowed) l._round l.below l.above (take l.len l.answered);
 }
