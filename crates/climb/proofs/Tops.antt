@@ -1,12 +1,12 @@
 -- What ladders do with each other's MICs at the top.
 use Rattle.std.proofs.Common.{◌≡◌, ℕ, ◌≤◌, Bool, true, false, cond, ◌&&◌, ltb, leb, List, ◌∷◌, ◌++◌, length, take, drop, Some, Ok, Err, Result, sym, refl, ap, ◌∙◌, subst, arith, length-append, length-take}
-use Rattle.std.proofs.lemmas.Bool.{eq-eqb, cond-true, cond-false, cond_both, le-ltb, leb-true, and_parts}
+use Rattle.std.proofs.lemmas.Bool.{eq-eqb, cond-true, cond-false, cond_both, le-ltb, leb-true, and_from, and_parts}
 use Rattle.std.proofs.lemmas.List.{length-replicate, take_at, drop_at, take_all}
 use Rattle.std.proofs.lemmas.Slice.Eq.{bytes_eq-Decides}
 use Rattle.std.specs.Str.{bytes_eq}
 use Rattle.climb.proofs.Legs.{client_at, server_at}
 use Rattle.climb.proofs.Rounds.{Standing, begun, climbing, over}
-use Rattle.climb.specs.Tops.{Takes, AtTop}
+use Rattle.climb.specs.Tops.{carried, Agree, agrees, exchanged, AtTop}
 use Rattle.ladder.proofs.Paddings.{padded_whole}
 use Rattle.ladder.specs.Keys.{key_of}
 use Rattle.ladder.specs.Mics.{ladder_sealing, side_byte}
@@ -17,7 +17,7 @@ use Rattle.mechanism.proofs.Paddings.{take_padded}
 use Rattle.mechanism.proofs.Sealable.{passed}
 use Rattle.mechanism.specs.Identities.{Who, who, cut}
 use Rattle.mechanism.specs.Paddings.{padded}
-use Rattle.mechanism.specs.Promises.{refusal, may_seal, make_answer, check_answer}
+use Rattle.mechanism.specs.Promises.{refusal, may_seal, check_answer}
 use Rattle.mechanism.specs.declared.identity.Identity.{Identity}
 use Rattle.mechanism.specs.declared.mechanism.Side.TheVariants.{Client, Server}
 use Rattle.sspi.specs.Faults.{and_then}
@@ -48,34 +48,66 @@ pub record Speak (s t : Ladder) (k l : List ℕ) (b : ℕ) : Type 0 where
 may_ok : (up : Bool) (x : List ℕ) → up ≡ true → length x ≤ 128 → may_seal up x ≡ Ok tt
 may_ok up x e h = cond-false (ltb 128 (length x)) _ _ (le-ltb 128 (length x) h) ∙ cond-true up _ _ e
 
-both_ok : {X Y : Type 0} (r : Result X Fault) (f : X → Result Y Fault) (v : Y) → and_then r f ≡ Ok v → (a : X) × (r ≡ Ok a) × (f a ≡ Ok v)
-both_ok (Ok a) f v h = (a, refl, h)
-both_ok (Err e) f v h = cc
-
 taken : (b : Bool) → cond b (Ok (tt {0})) (Err (refusal MessageAltered)) ≡ Ok tt → b ≡ true
 taken true h = refl
 taken false h = cc
 
-heard_same : (s t : Ladder) (k l : List ℕ) (b : ℕ) (x y : List ℕ) → Speak s t k l b → Takes s t x y → (key_of k ≡ key_of l) × (x ≡ y) × (length x ≤ 128)
-heard_same s t k l b x y p h =
-    let q = both_ok (make_answer ladder_sealing s x) (λ mic. check_answer ladder_sealing t y mic) tt h in
-    let u = passed (ladder_sealing.up s) x (Ok (ladder_sealing.made s x)) q.0 q.1 in
-    let v = passed (ladder_sealing.up t) y _ tt q.2 in
-    let m : ladder_sealing.made s x ≡ q.0 = (let w = u.2 in cc) in
-    let g : bytes_eq (key_of l ++ b ∷ y) q.0 ≡ true = sym (p.takes y q.0) ∙ taken _ v.2 in
-    let e : key_of l ++ b ∷ y ≡ key_of k ++ b ∷ x = (bytes_eq-Decides (key_of l ++ b ∷ y) q.0).0 g ∙ (sym m ∙ p.made x) in
-    let f = fronts (key_of l) (key_of k) b y x (length-padded 8 l) (length-padded 8 k) e in
-    (sym f.0, sym f.1, u.1)
+-- the answer by identities and data is an acceptance where key and data agree
+agree_from : (i j : Who) (x y : List ℕ) → exchanged i j x y ≡ Ok tt → Agree i j x y
+agree_from i j x y h =
+    let p = passed true x (and_then (may_seal true y) (λ _. cond (agrees i j x y) (Ok tt) (Err (refusal MessageAltered)))) tt h in
+    let q = passed true y (cond (agrees i j x y) (Ok tt) (Err (refusal MessageAltered))) tt p.2 in
+    let u = and_parts (bytes_eq (key_of i.secret) (key_of j.secret)) (bytes_eq x y) (taken (agrees i j x y) q.2) in
+    record { keys = (bytes_eq-Decides (key_of i.secret) (key_of j.secret)).0 u.0; same = (bytes_eq-Decides x y).0 u.1; short = p.1 }
 
-same_heard : (s t : Ladder) (k l : List ℕ) (b : ℕ) (x y : List ℕ) → Speak s t k l b → key_of k ≡ key_of l → x ≡ y → length x ≤ 128 → Takes s t x y
-same_heard s t k l b x y p e f h =
-    let m : make_answer ladder_sealing s x ≡ Ok (ladder_sealing.made s x) = ap (λ v. and_then v (λ _. Ok (ladder_sealing.made s x))) (may_ok (ladder_sealing.up s) x p.up h) in
-    let g : key_of l ++ b ∷ y ≡ ladder_sealing.made s x = ap (λ v. v ++ b ∷ y) (sym e) ∙ (ap (λ v. key_of k ++ b ∷ v) (sym f) ∙ sym (p.made x)) in
-    let d : ladder_sealing.takes t y (ladder_sealing.made s x) ≡ true = p.takes y _ ∙ (bytes_eq-Decides (key_of l ++ b ∷ y) (ladder_sealing.made s x)).1 g in
-    let i : length y ≤ 128 = subst (λ v. length v ≤ 128) f h in
-    ap (λ v. and_then v (λ mic. check_answer ladder_sealing t y mic)) m
-    ∙ (ap (λ v. and_then v (λ _. cond (ladder_sealing.takes t y (ladder_sealing.made s x)) (Ok tt) (Err (refusal MessageAltered)))) (may_ok (ladder_sealing.up t) y p.up_too i)
-    ∙ cond-true _ _ _ d)
+agree_to : (i j : Who) (x y : List ℕ) → Agree i j x y → exchanged i j x y ≡ Ok tt
+agree_to i j x y a =
+    let l : length y ≤ 128 = subst (λ v. length v ≤ 128) a.same a.short in
+    let b : agrees i j x y ≡ true = and_from _ _ ((bytes_eq-Decides (key_of i.secret) (key_of j.secret)).1 a.keys) ((bytes_eq-Decides x y).1 a.same) in
+    ap (λ v. and_then v (λ _. and_then (may_seal true y) (λ _. cond (agrees i j x y) (Ok tt) (Err (refusal MessageAltered))))) (may_ok true x refl a.short)
+    ∙ (ap (λ v. and_then v (λ _. cond (agrees i j x y) (Ok tt) (Err (refusal MessageAltered)))) (may_ok true y refl l) ∙ cond-true _ _ _ b)
+
+-- tests that each follow from the other are the same
+same_test : (a b : Bool) → (a ≡ true → b ≡ true) → (b ≡ true → a ≡ true) → a ≡ b
+same_test true b f g = sym (f refl)
+same_test false true f g = g refl
+same_test false false f g = refl
+
+-- the MIC is taken where key and data agree
+mic_test : (i j : Who) (b : ℕ) (x y : List ℕ) → bytes_eq (key_of j.secret ++ b ∷ y) (key_of i.secret ++ b ∷ x) ≡ agrees i j x y
+mic_test i j b x y =
+    let k = key_of i.secret in
+    let l = key_of j.secret in
+    same_test _ _
+    (λ h.
+    let f = fronts l k b y x (length-padded 8 j.secret) (length-padded 8 i.secret) ((bytes_eq-Decides (l ++ b ∷ y) (k ++ b ∷ x)).0 h) in
+    and_from _ _ ((bytes_eq-Decides k l).1 (sym f.0)) ((bytes_eq-Decides x y).1 (sym f.1)))
+    (λ h.
+    let u = and_parts (bytes_eq k l) (bytes_eq x y) h in
+    let e : l ≡ k = sym ((bytes_eq-Decides k l).0 u.0) in
+    let f : y ≡ x = sym ((bytes_eq-Decides x y).0 u.1) in
+    (bytes_eq-Decides (l ++ b ∷ y) (k ++ b ∷ x)).1 (ap (λ v. v ++ b ∷ y) e ∙ ap (λ v. k ++ b ∷ v) f))
+
+agree_back : (i j : Who) (x y : List ℕ) → agrees j i x y ≡ agrees i j x y
+agree_back i j x y =
+    ap (λ v. v && bytes_eq x y)
+    (same_test _ _
+    (λ h. (bytes_eq-Decides (key_of i.secret) (key_of j.secret)).1 (sym ((bytes_eq-Decides (key_of j.secret) (key_of i.secret)).0 h)))
+    (λ h. (bytes_eq-Decides (key_of j.secret) (key_of i.secret)).1 (sym ((bytes_eq-Decides (key_of i.secret) (key_of j.secret)).0 h))))
+
+then_once : {X Y Z : Type 0} (r : Result X Fault) (m : Y) (f : Y → Result Z Fault) → and_then (and_then r (λ _. Ok m)) f ≡ and_then r (λ _. f m)
+then_once (Ok a) m f = refl
+then_once (Err e) m f = refl
+
+-- what is answered to a MIC, by identities and data alone
+answers : (s t : Ladder) (i j : Who) (b : ℕ) (x y : List ℕ) → Speak s t i.secret j.secret b → carried s t x y ≡ exchanged i j x y
+answers s t i j b x y p =
+    let m = ladder_sealing.made s x in
+    let e : ladder_sealing.takes t y m ≡ agrees i j x y = p.takes y m ∙ (ap (λ v. bytes_eq (key_of j.secret ++ b ∷ y) v) (p.made x) ∙ mic_test i j b x y) in
+    then_once (may_seal (ladder_sealing.up s) x) m (λ mic. check_answer ladder_sealing t y mic)
+    ∙ (ap (λ u. and_then (may_seal u x) (λ _. check_answer ladder_sealing t y m)) p.up
+    ∙ (ap (λ u. and_then (may_seal true x) (λ _. and_then (may_seal u y) (λ _. cond (ladder_sealing.takes t y m) (Ok tt) (Err (refusal MessageAltered))))) p.up_too
+    ∙ ap (λ v. and_then (may_seal true x) (λ _. and_then (may_seal true y) (λ _. cond v (Ok tt) (Err (refusal MessageAltered))))) e))
 
 to_server : (n : ℕ) (i j : Who) → Speak (client_at n i n) (server_at n j n Server (Some (cut i.account))) i.secret j.secret (side_byte Client)
 to_server n i j = record {
@@ -100,6 +132,12 @@ at_top_lem : (n : ℕ) (i j : Who) → length i.account ≤ 64 → AtTop n i j (
 at_top_lem n i j h =
     let c = client_at n i n in
     let s = server_at n j n Server (Some (cut i.account)) in
+    let up : (x y : List ℕ) → carried c s x y ≡ exchanged i j x y = λ x y. answers c s i j (side_byte Client) x y (to_server n i j) in
+    let down : (x y : List ℕ) → carried s c x y ≡ exchanged i j x y =
+    λ x y.
+    answers s c j i (side_byte Server) x y (to_client n i j)
+    ∙ ap (λ v. and_then (may_seal true x) (λ _. and_then (may_seal true y) (λ _. cond v (Ok tt) (Err (refusal MessageAltered))))) (agree_back i j x y)
+    in
     record {
       client_top = refl;
       server_top = refl;
@@ -107,14 +145,10 @@ at_top_lem n i j h =
       server_up = eq-eqb n n refl;
       client_named = known i.account h;
       server_named = known i.account h;
-      server_takes = λ x y. (
-        (λ t. let p = heard_same c s i.secret j.secret (side_byte Client) x y (to_server n i j) t in record { keys = p.0; same = p.1; short = p.2 }),
-        (λ a. same_heard c s i.secret j.secret (side_byte Client) x y (to_server n i j) a.keys a.same a.short),
-      );
-      client_takes = λ x y. (
-        (λ t. let p = heard_same s c j.secret i.secret (side_byte Server) x y (to_client n i j) t in record { keys = sym p.0; same = p.1; short = p.2 }),
-        (λ a. same_heard s c j.secret i.secret (side_byte Server) x y (to_client n i j) (sym a.keys) a.same a.short),
-      );
+      server_answers = up;
+      client_answers = down;
+      server_takes = λ x y. ((λ t. agree_from i j x y (sym (up x y) ∙ t)), (λ a. up x y ∙ agree_to i j x y a));
+      client_takes = λ x y. ((λ t. agree_from i j x y (sym (down x y) ∙ t)), (λ a. down x y ∙ agree_to i j x y a));
     }
 
 -- five rounds suffice

@@ -1,7 +1,7 @@
 #![tactic(auto)]
 
 ghost use Rattle.std.specs.Prelude.{◌≡◌, ◌↔◌, Ok};
-ghost use Rattle.climb.specs.Tops.{Agree, Climbed};
+ghost use Rattle.climb.specs.Tops.{Agree, Climbed, exchanged};
 ghost use Rattle.ladder.specs.Rungs.{legs_of};
 ghost use Rattle.mechanism.specs.Identities.{who};
 
@@ -51,7 +51,8 @@ pub fn exchange(
     sent: &[u8],
     heard: &[u8],
 ) -> Result<(), Fault>
-    ensures { result ≡ Ok tt ↔ Agree (who client.now) (who allowed.now) sent.now heard.now }
+    ensures answer { result ≡ exchanged (who client.now) (who allowed.now) sent.now heard.now }
+    ensures agree { result ≡ Ok tt ↔ Agree (who client.now) (who allowed.now) sent.now heard.now }
 {
     let mut top = climb(legs, client, allowed)?;
     carry(&mut top.client, &mut top.server, sent, heard)?;
