@@ -20,7 +20,7 @@ pub data Standing (n : ℕ) (i j : Who) (k : ℕ) (c s : Ladder) (t : List ℕ) 
   climbing : (h : ℕ) → h + 1 ≡ 2 * k → 1 ≤ h → h + 1 ≤ n → c ≡ client_at n i h → s ≡ server_at n j (h + 1) Server (Some (cut i.account)) → t ≡ (h + 1) ∷ [] → Standing n i j k c s t
   over : n < 2 * k → c ≡ client_at n i n → s ≡ server_at n j n Server (Some (cut i.account)) → t ≡ [] → Standing n i j k c s t
 
--- After the client's step of the round behind k rounds: it has sent leg 2k + 1, if there is one.
+-- After k rounds and the client's step of the next one: it has sent leg 2k + 1, if there is one.
 pub data Midway (n : ℕ) (i j : Who) (k : ℕ) (c s : Ladder) (t : List ℕ) : Type 0 where
   called : (h : ℕ) (by : Side) (name : Option Part) → h ≡ 2 * k → h + 1 ≤ n → c ≡ client_at n i (h + 1) → s ≡ server_at n j h by name → t ≡ (h + 1) ∷ i.account → Midway n i j k c s t
   rested : n ≤ 2 * k → c ≡ client_at n i n → s ≡ server_at n j n Server (Some (cut i.account)) → t ≡ [] → Midway n i j k c s t
@@ -94,7 +94,7 @@ took o after P (Ok p) w a l = record {
 }
 took o after P (Err e) w a l = let u = w.answer in absurd (cc)
 
--- so is the answer of a call of a step that goes
+-- so it is with a call of a step whose outcome is accepted
 took_step : (s s' : Ladder) (by : Side) (i : Option Who) (t before after : List ℕ) (r : Result (SecurityStatus × ℕ) Fault) (P : Ladder → List ℕ → Type 0)
     → length before ≡ 65 → Went (stepped s by i t 65) P → Steps ladder_stepping s by 0 i t before s' after r → Took r after (P s')
 took_step s s' by i t before after r P b w p =
