@@ -5,7 +5,7 @@ use sspi::{ErrorKind, Fault, SecurityStatus};
 use std::process::Abort;
 use std::test::Fail;
 
-// Whose first step is answered with Ok.
+// The entries of a script whose session is up after one step.
 const OK: &[&[u8]] = &[b"\x00\x00\x00\x00"];
 
 // The next entry, which has no token, is answered so.
