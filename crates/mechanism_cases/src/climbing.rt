@@ -47,8 +47,8 @@ fn climb(rt: &impl Abort, legs: u8, rows: &[(SecurityStatus, &[u8])]) -> Result<
         }
         input = token;
     }
-    is_named(rt, &client, Ok(b"Ann".as_slice()));
-    is_named(rt, &server, Ok(b"Ann".as_slice()));
+    is_named(rt, &client, Ok(b"Ann"));
+    is_named(rt, &server, Ok(b"Ann"));
     Ok(())
 }
 
@@ -137,7 +137,7 @@ fn legs_that_a_server_refuses(rt: HostRuntime) -> Result<(), Fail> {
     answers(&rt, &mut server, side, b"\x03Ann", (DONE, b"\x04"))?;
     refuses(&rt, &mut server, side, &[b"\x03Ann", b"\x04", b"\x05Ann"])?;
     answers(&rt, &mut server, side, b"", (DONE, b""))?;
-    is_named(&rt, &server, Ok(b"Ann".as_slice()));
+    is_named(&rt, &server, Ok(b"Ann"));
     Ok(())
 }
 
@@ -156,8 +156,8 @@ fn legs_that_a_client_refuses(rt: HostRuntime) -> Result<(), Fail> {
     answers(&rt, &mut client, side, b"\x02", (DONE, b"\x03Ann"))?;
     refuses(&rt, &mut client, side, &[b"\x02", b"\x03", b"\x04"])?;
     answers(&rt, &mut client, side, b"", (DONE, b""))?;
-    is_named(&rt, &client, Ok(b"Ann".as_slice()));
-    makes(&rt, &mut client, b"x", Ok(b"passwordCx".as_slice()));
+    is_named(&rt, &client, Ok(b"Ann"));
+    makes(&rt, &mut client, b"x", Ok(b"passwordCx"));
     Ok(())
 }
 
@@ -194,10 +194,10 @@ fn the_longest_account(rt: HostRuntime) -> Result<(), Fail> {
         None,
         &leg[..65],
         &mut [],
-        Ok((DONE, b"".as_slice())),
+        Ok((DONE, b"")),
     );
-    is_named(&rt, &client, Ok(account.as_slice()));
-    is_named(&rt, &server, Ok(account.as_slice()));
+    is_named(&rt, &client, Ok(&account));
+    is_named(&rt, &server, Ok(&account));
     Ok(())
 }
 
@@ -247,7 +247,7 @@ fn rooms_of_a_server(rt: HostRuntime) -> Result<(), Fail> {
         None,
         b"\x01Ann",
         &mut [0; 1],
-        Ok((GO, b"\x02".as_slice())),
+        Ok((GO, b"\x02")),
     );
     // the last leg is heard, and nothing is sent
     steps(
@@ -257,7 +257,7 @@ fn rooms_of_a_server(rt: HostRuntime) -> Result<(), Fail> {
         None,
         b"\x03Ann",
         &mut [],
-        Ok((DONE, b"".as_slice())),
+        Ok((DONE, b"")),
     );
     Ok(())
 }
@@ -286,7 +286,7 @@ fn names(rt: HostRuntime) -> Result<(), Fail> {
         None,
         b"",
         &mut [0; 1],
-        Ok((GO, b"\x01".as_slice())),
+        Ok((GO, b"\x01")),
     );
     assert_eq!(rt; client.name(&mut name), Ok(0));
     Ok(())

@@ -26,7 +26,7 @@ fn is_down(rt: &impl Abort, script: &mut Script) {
 
 // Makes a MIC and takes it.
 fn is_up(rt: &impl Abort, script: &mut Script) {
-    makes(rt, script, b"abc", Ok(b"Sabc".as_slice()));
+    makes(rt, script, b"abc", Ok(b"Sabc"));
     assert_eq!(rt; script.check(b"abc", b"Sabc"), Ok(()));
 }
 
@@ -102,7 +102,7 @@ fn lengths_of_data(rt: HostRuntime) -> Result<(), Fail> {
     assert_eq!(rt; script.check(&bytes, &mic), Err(long));
     is_down(&rt, &mut script);
     plays(&rt, &mut script, Ok(SecurityStatus::Ok));
-    makes(&rt, &mut script, &bytes[..128], Ok(mic.as_slice()));
+    makes(&rt, &mut script, &bytes[..128], Ok(&mic));
     assert_eq!(rt; script.check(&bytes[..128], &mic), Ok(()));
     makes(&rt, &mut script, &bytes, Err(long));
     assert_eq!(rt; script.check(&bytes, &mic), Err(long));

@@ -155,10 +155,10 @@ fn steps_at_the_top(rt: HostRuntime) -> Result<(), Fail> {
             identity,
             b"",
             &mut [],
-            Ok((SecurityStatus::Ok, b"".as_slice())),
+            Ok((SecurityStatus::Ok, b"")),
         );
         makes(&rt, &mut client, b"data", Ok(mic));
-        is_named(&rt, &client, Ok(b"Ann".as_slice()));
+        is_named(&rt, &client, Ok(b"Ann"));
     }
     Ok(())
 }
@@ -206,9 +206,9 @@ fn fresh_forgets(rt: HostRuntime) -> Result<(), Fail> {
         None,
         b"\x01bob",
         &mut [0; 1],
-        Ok((SecurityStatus::Ok, b"\x02".as_slice())),
+        Ok((SecurityStatus::Ok, b"\x02")),
     );
-    is_named(&rt, &server, Ok(b"bob".as_slice()));
+    is_named(&rt, &server, Ok(b"bob"));
     makes(&rt, &mut server, b"data", Ok(b"\0\0\0\0\0\0\0\0Sdata"));
     Ok(())
 }
