@@ -91,35 +91,25 @@ fn a_dozen_kinds(rt: HostRuntime) -> Result<(), Fail> {
     Ok(())
 }
 
-// Each moves on, so that the last entry is reached.
+// Each moves on, to the end of the book.
 #[test]
 fn entries_that_say_nothing(rt: HostRuntime) -> Result<(), Fail> {
-    let book = book_of(
-        &rt,
-        &[
-            b"",
-            b"\x00",
-            b"\x00\x09\x03",
-            b"\x00\x00\x00\x01t",
-            b"\x00\x09\x03\x16t",
-            b"\x80\x09\x03\x12t",
-            b"\x12\x03\x09\x00t",
-            b"\xff\xff\xff\xfft",
-            b"\x00\x09\x03\x12t",
-        ],
-    )?;
+    let rows: [&[u8]; 8] = [
+        b"",
+        b"\x00",
+        b"\x00\x09\x03",
+        b"\x00\x00\x00\x01t",
+        b"\x00\x09\x03\x16t",
+        b"\x80\x09\x03\x12t",
+        b"\x12\x03\x09\x00t",
+        b"\xff\xff\xff\xfft",
+    ];
+    let book = book_of(&rt, &rows)?;
     let mut script = Script::new(&book);
-    let mut work = [0; 4];
-    for _ in 0..8 {
-        refuses(&rt, &mut script, &mut work, ErrorKind::InternalError);
+    for _ in rows {
+        refuses(&rt, &mut script, &mut [0; 4], ErrorKind::InternalError);
     }
-    answers(
-        &rt,
-        &mut script,
-        &mut work,
-        SecurityStatus::ContinueNeeded,
-        b"t",
-    );
+    refuses(&rt, &mut script, &mut [0; 4], ErrorKind::OutOfSequence);
     Ok(())
 }
 
@@ -192,9 +182,8 @@ fn rooms(rt: HostRuntime) -> Result<(), Fail> {
 fn a_room_that_is_never_enough(rt: HostRuntime) -> Result<(), Fail> {
     let book = book_of(&rt, &[b"\x80\x09\x03\x21", b"\x00\x09\x03\x12t"])?;
     let mut script = Script::new(&book);
-    for _ in 0..3 {
-        refuses(&rt, &mut script, &mut [0; 99], ErrorKind::BufferTooSmall);
-    }
+    refuses(&rt, &mut script, &mut [0; 99], ErrorKind::BufferTooSmall);
+    refuses(&rt, &mut script, &mut [0; 99], ErrorKind::BufferTooSmall);
     Ok(())
 }
 
