@@ -13,6 +13,7 @@ use mechanism::{Identity, Mechanism, Sealer, Side, may_seal};
 use sspi::{ErrorKind, Fault, Layer, SecurityStatus};
 
 // A mechanism that plays a book, entry by entry.
+#[derive(Drop)]
 pub struct Script<'a> {
     book: Book<'a>,
     pos: usize,
