@@ -117,7 +117,7 @@ fn oids_len(oids: &[&[u8]]) -> Result<usize, Fault>
     Ok(total)
 }
 
-// Writes the object identifiers, one behind the other.
+// Writes the object identifiers, one behind the other, whose length was computed before.
 fn put_oids(w: &mut Writer<'_>, oids: &[&[u8]]) -> Result<(), Fault>
     requires { length (oidsBytes (plain_oids oids.now)) < 65536 }
     ensures { Adds (oidsBytes (plain_oids oids.now)) w.old w.new result }

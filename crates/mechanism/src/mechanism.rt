@@ -40,7 +40,7 @@ impl Side {
     }
 }
 
-// What makes MICs over data and checks them, once a session is up.
+// What makes MICs over data and checks them, once a session is up. Its memory is lent by the caller, for there is no heap.
 pub trait Sealer {
     ghost sealing: { Sealing Self };
 

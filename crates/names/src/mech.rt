@@ -37,7 +37,7 @@ impl Named for Mech {
 }
 
 impl Mech {
-    // The content of the mechanism's object identifier.
+    // The content of the mechanism's object identifier, lent without a writer.
     pub fn oid(self) -> &'static [u8]
         ensures { result.now ≡ mech_oid self }
     {

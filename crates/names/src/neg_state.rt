@@ -42,7 +42,7 @@ impl Named for NegState {
 }
 
 impl NegState {
-    // The element that says it.
+    // The element that says it, lent without a writer.
     pub fn bytes(self) -> &'static [u8]
         ensures { result.now ≡ state_bytes self }
     {

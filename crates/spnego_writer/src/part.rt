@@ -31,7 +31,7 @@ pub(crate) fn field_len(kind: Kind, part: Option<&[u8]>) -> Result<usize, Fault>
     element_len(inside_len(kind, part.len())?)
 }
 
-// Writes the part as it stands inside its field.
+// Writes the part as it stands inside its field. As above it, its length is known: all lengths are computed before the first byte is written.
 fn put_inside(w: &mut Writer<'_>, kind: Kind, part: &[u8]) -> Result<(), Fault>
     requires { length (inside kind part.now) < 65536 }
     ensures { Adds (inside kind part.now) w.old w.new result }
