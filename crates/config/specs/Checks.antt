@@ -24,7 +24,7 @@ checked client word list = planned client word (parsed list) 16384
 
 -- what stands in a draft
 abbrev pub plan_of : {R : Type 0} → Draft R → Plan
-plan_of d = record { running = d.running; «open» = d.«open»; max_work = d.max_work }
+plan_of d = d.plan
 
 abbrev pub drafted : {R : Type 0} → Result (Draft R) Fault → Result Plan Fault
 drafted (Ok d) = Ok (plan_of d)

@@ -24,9 +24,11 @@ impl<R: Role> Draft<R> {
         let running = filter_protocol(configured, open, R::IS_CLIENT)?;
         Ok(Draft {
             role: PhantomData,
-            running,
-            open,
-            max_work: MAX_WORK,
+            plan: Plan {
+                running,
+                open,
+                max_work: MAX_WORK,
+            },
         })
     }
 }
@@ -37,16 +39,7 @@ impl<R> Draft<R> {
         ensures answer { result ≡ plan_of self }
         ensures some { any_open result.«open» ≡ true }
     {
-        let Draft {
-            role: _,
-            running,
-            open,
-            max_work,
-        } = self;
-        Plan {
-            running,
-            open,
-            max_work,
-        }
+        let Draft { role: _, plan } = self;
+        plan
     }
 }

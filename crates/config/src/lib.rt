@@ -45,10 +45,8 @@ impl Role for Server {
 // It is neither Copy nor Clone nor Drop, so it can be neither used twice nor let go; at least one package is open.
 pub struct Draft<R> {
     role: PhantomData<R>,
-    running: Protocol,
-    open: PackageListConfig,
-    max_work: usize,
-    ghost some: { any_open «open» ≡ true },
+    plan: Plan,
+    ghost some: { any_open plan.«open» ≡ true },
 }
 
 // What stands in a draft: the protocol that runs, the packages that are open, and the greatest working buffer.

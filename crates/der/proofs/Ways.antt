@@ -13,11 +13,6 @@ err_ok e x h = cc
 pub same_ok : {X E : Type 0} (x y : X) → ◌≡◌ {A = Result X E} (Ok x) (Ok y) → x ≡ y
 same_ok x y h = cc
 
--- the test that refuses was false
-pub passed : {X E : Type 0} (b : Bool) (e : E) (s : Result X E) (x : X) → cond b (Err e) s ≡ Ok x → (b ≡ false) × (s ≡ Ok x)
-passed true e s x h = absurd (err_ok e x h)
-passed false e s x h = (refl, h)
-
 -- the test that lets through was true
 pub let_through : {X E : Type 0} (b : Bool) (e : E) (r : Result X E) (x : X) → cond b r (Err e) ≡ Ok x → (b ≡ true) × (r ≡ Ok x)
 let_through true e r x h = (refl, h)

@@ -38,7 +38,7 @@ fn head(input: &[u8]) -> Result<(u8, usize, &[u8]), Fault>
         [tag, 0x81, n @ 0x80..=0xff, rest @ ..] => Ok((*tag, *n as usize, rest)),
         [tag, 0x82, high @ 1..=0xff, low, rest @ ..] => Ok((
             *tag,
-            *high as usize * 256 + *low as usize,
+            u16::from_be_bytes([*high, *low]) as usize,
             rest,
         )),
         _ => Err(ILLEGAL),

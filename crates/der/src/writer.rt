@@ -60,6 +60,7 @@ impl<'a> Writer<'a> {
         } else if n < 0x100 {
             self.put_bytes(&[tag, 0x81, n as u8])
         } else if n < 0x10000 {
+            // By division: with `to_be_bytes` the contract did not follow.
             self.put_bytes(&[tag, 0x82, (n / 256) as u8, (n % 256) as u8])
         } else {
             Err(INVALID)

@@ -124,7 +124,7 @@ impl<'a> Part<'a> {
             [_, n @ 0..=0x7f, rest @ ..] => Ok((*n as usize, self.part(2, rest))),
             [_, 0x81, n @ 0x80..=0xff, rest @ ..] => Ok((*n as usize, self.part(3, rest))),
             [_, 0x82, high @ 1..=0xff, low, rest @ ..] => Ok((
-                *high as usize * 256 + *low as usize,
+                u16::from_be_bytes([*high, *low]) as usize,
                 self.part(4, rest),
             )),
             [_, 0x81, _, ..] | [_, 0x82, 0, ..] => self.fail(1, Reason::LongForm),
@@ -223,15 +223,16 @@ impl<'a> Part<'a> {
 
     // Whether this is what a field of the kind holds.
     fn inner(self, kind: Kind) -> Result<(), Trouble> {
+        let part = match kind.wrapper() {
+            None => self,
+            Some(tag) => self.only(tag)?,
+        };
         match kind {
-            Kind::Element => self.take()?.1.end(),
-            Kind::MechTypes => self.mech_types(),
-            Kind::Oid => self.only(0x06)?.oid(),
-            Kind::BitString => self.only(0x03)?.bit_string(),
-            Kind::OctetString => {
-                self.only(0x04)?;
-                Ok(())
-            }
+            Kind::Element => part.take()?.1.end(),
+            Kind::MechTypes => part.mech_types(),
+            Kind::Oid => part.oid(),
+            Kind::BitString => part.bit_string(),
+            Kind::OctetString => Ok(()),
         }
     }
 
