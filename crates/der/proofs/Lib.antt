@@ -5,3 +5,4 @@ pub mod Adding
 pub mod Measures
 pub mod Taking
 pub mod Promised
+pub mod Placing

@@ -1,8 +1,8 @@
--- The test for an object identifier decides its rule.
-use Rattle.std.proofs.Common.{◌≡◌, ℕ, zero, suc, ◌-◌, ◌<◌, true, eqb, ltb, List, [], ◌∷◌, length, get_or, Decides, refl, ap, inl, inr, arith}
-use Rattle.std.proofs.lemmas.Bool.{lt-ltb, ltb-true}
-use Rattle.std.proofs.lemmas.Bool.Decides.{Decides-eqb, Decides-ltb, Decides-and, Decides-not, Decides-like}
-use Rattle.der.specs.Elements.{arcs, oid, ArcBegins, ObjectIdentifier}
+-- The tests for an object identifier and for a bit string decide their rules.
+use Rattle.std.proofs.Common.{◌≡◌, ℕ, zero, suc, ◌-◌, ◌<◌, ◌≤◌, Bool, true, eqb, ltb, leb, ◌⊎◌, List, [], ◌∷◌, length, get_or, Decides, refl, ap, inl, inr, ⊎_elim, arith}
+use Rattle.std.proofs.lemmas.Bool.{lt-ltb, ltb-true, leb-true, le-leb, cases_lt}
+use Rattle.std.proofs.lemmas.Bool.Decides.{Decides-at, Decides-eqb, Decides-ltb, Decides-and, Decides-or, Decides-not, Decides-like}
+use Rattle.der.specs.Elements.{arcs, oid, bit_string, ArcBegins, ObjectIdentifier, BitString}
 
 -- a row of arcs behind the byte p, which ends an arc where it is below 0x80: the last byte ends an arc, and no byte 0x80 follows one that does
 Row : ℕ → List ℕ → Type 0
@@ -59,3 +59,20 @@ rule_row (b ∷ bs) o = (o.some, (omega (arith, before (b ∷ bs) (length bs), o
 pub decides_oid : (xs : List ℕ) → Decides (oid xs) (ObjectIdentifier xs)
 unfolding oid
 decides_oid xs = Decides-like _ (oid_rule xs) (rule_row xs) (Decides-and (ltb 0 (length xs)) (arcs true xs) (Decides-ltb 0 (length xs)) (arcs_row 0 xs))
+
+-- a first byte of at most 7, and 0 where it stands alone
+bits_rule : (xs : List ℕ) → (0 < length xs) × ((get_or xs 0 0 ≤ 7) × ((1 < length xs) ⊎ (get_or xs 0 0 ≡ 0))) → BitString xs
+bits_rule xs f = record { some = f.0; unused = f.1.0; none = λ e. ⊎_elim (λ l. absurd (omega arith)) (λ z. z) f.1.1 }
+
+rule_bits : (xs : List ℕ) → BitString xs → (0 < length xs) × ((get_or xs 0 0 ≤ 7) × ((1 < length xs) ⊎ (get_or xs 0 0 ≡ 0)))
+rule_bits xs b = (b.some, (b.unused, ⊎_elim inl (λ l. inr (b.none (omega (arith, b.some)))) (cases_lt 1 (length xs))))
+
+pub decides_bits : (xs : List ℕ) → Decides (bit_string xs) (BitString xs)
+unfolding bit_string
+decides_bits xs =
+    let small : Decides (leb (get_or xs 0 0) 7) (get_or xs 0 0 ≤ 7) = (leb-true _ _, le-leb _ _) in
+    let more = Decides-or (ltb 1 (length xs)) (eqb (get_or xs 0 0) 0) (Decides-ltb 1 (length xs)) (Decides-eqb (get_or xs 0 0) 0) in
+    Decides-like _ (bits_rule xs) (rule_bits xs) (Decides-and _ _ (Decides-ltb 0 (length xs)) (Decides-and _ _ small more))
+
+pub bits_ruled : (r : Bool) (xs : List ℕ) → r ≡ bit_string xs → Decides r (BitString xs)
+bits_ruled r xs e = Decides-at r (bit_string xs) e (decides_bits xs)

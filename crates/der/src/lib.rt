@@ -6,8 +6,10 @@ ghost use Rattle.der.specs.Elements.{oid, bit_string, ObjectIdentifier, BitStrin
 ghost use Rattle.der.specs.Laws.{ReadBack, OnlyWritten, RefusedIllegal, OneWriting};
 ghost use Rattle.der.specs.Writing.{element_len};
 
+mod placed;
 mod writer;
 
+pub use placed::{put_bytes, put_element, put_header};
 use sspi::{ErrorKind, Fault, Layer};
 pub use writer::Writer;
 

@@ -1,4 +1,4 @@
-ghost use Rattle.std.specs.Prelude.{◌≡◌, ◌<◌, ◌≤◌, [], length};
+ghost use Rattle.std.specs.Prelude.{◌≡◌, ◌+◌, ◌<◌, ◌≤◌, [], length, MatchResult};
 
 use crate::{INVALID, TOO_SMALL, element_len};
 use sspi::Fault;
@@ -13,7 +13,7 @@ pub struct Writer<'a> {
 
 impl<'a> Writer<'a> {
     ghost use Rattle.der.specs.Elements.{header, element};
-    ghost use Rattle.der.specs.Writing.{written, room, Puts};
+    ghost use Rattle.der.specs.Writing.{written, room, too_small, Puts};
 
     // A writer at the front of the buffer.
     pub fn new(out: &'a mut [u8]) -> Writer<'a>
@@ -36,6 +36,21 @@ impl<'a> Writer<'a> {
         ensures { result ≡ length (room self.now) }
     {
         self.out.len() - self.at
+    }
+
+    // Goes over the next n bytes, which stay as they are.
+    pub(crate) fn skip(&mut self, n: usize) -> Result<(), Fault>
+        ensures lent { self.new.out.ghost_name ≡ self.old.out.ghost_name }
+        ensures buffer { self.new.out.now ≡ self.old.out.now }
+        ensures place { MatchResult result
+            (λ _. (n ≤ length (room self.old)) × (self.new.at ≡ self.old.at + n))
+            (λ e. (e ≡ too_small) × (length (room self.old) < n)) }
+    {
+        if n > self.room() {
+            return Err(TOO_SMALL);
+        }
+        self.at += n;
+        Ok(())
     }
 
     // Writes the bytes.
