@@ -20,10 +20,9 @@ fn run(rt: &HostRuntime) -> anyhow::Result<()> {
             Line::Token(token) => Some(token),
         };
         number = number.saturating_add(1);
-        print!(rt; "token {number}: ")?;
         match token {
-            None => println!(rt; "not hexadecimal")?,
-            Some(token) => show(rt, token.as_slice())?,
+            None => println!(rt; "token {number}: not hexadecimal")?,
+            Some(token) => show(rt, number, token.as_slice())?,
         }
     }
     Ok(())

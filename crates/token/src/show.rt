@@ -11,26 +11,26 @@ use std::io;
 const LONGEST: usize = 65535;
 
 // Prints what the token holds, or why it is refused.
-pub fn show(rt: &impl Print, token: &[u8]) -> io::Result<()> {
+pub fn show(rt: &impl Print, number: u64, token: &[u8]) -> io::Result<()> {
     if token.len() > LONGEST {
-        refused(rt, INVALID)?;
+        refused(rt, number, INVALID)?;
         return println!(rt; "longer than {LONGEST} bytes");
     }
     if let [0x60, ..] = token {
         match NegTokenInit::read(token) {
-            Ok(read) => init(rt, token.len(), read),
-            Err(fault) => explained(rt, token, fault),
+            Ok(read) => init(rt, number, token.len(), read),
+            Err(fault) => explained(rt, number, token, fault),
         }
     } else {
         match NegTokenTarg::read(token) {
-            Ok(read) => targ(rt, token.len(), read),
-            Err(fault) => explained(rt, token, fault),
+            Ok(read) => targ(rt, number, token.len(), read),
+            Err(fault) => explained(rt, number, token, fault),
         }
     }
 }
 
-fn init(rt: &impl Print, len: usize, token: NegTokenInit<'_>) -> io::Result<()> {
-    println!(rt; "NegTokenInit, {len} bytes")?;
+fn init(rt: &impl Print, number: u64, len: usize, token: NegTokenInit<'_>) -> io::Result<()> {
+    println!(rt; "token {number}: NegTokenInit, {len} bytes")?;
     oid(rt, "thisMech", token.this_mech)?;
     match token.mech_types {
         None => println!(rt; "mechTypes absent")?,
@@ -41,8 +41,8 @@ fn init(rt: &impl Print, len: usize, token: NegTokenInit<'_>) -> io::Result<()> 
     bytes(rt, "mechListMIC", token.mech_list_mic)
 }
 
-fn targ(rt: &impl Print, len: usize, token: NegTokenTarg<'_>) -> io::Result<()> {
-    println!(rt; "NegTokenTarg, {len} bytes")?;
+fn targ(rt: &impl Print, number: u64, len: usize, token: NegTokenTarg<'_>) -> io::Result<()> {
+    println!(rt; "token {number}: NegTokenTarg, {len} bytes")?;
     match token.neg_state {
         None => println!(rt; "negState absent")?,
         Some(element) => named(rt, "negState", element, NegState::try_from(element).ok())?,
@@ -95,13 +95,17 @@ fn named<T: Display + Drop>(
     }
 }
 
-fn refused(rt: &impl Print, fault: Fault) -> io::Result<()> {
-    println!(rt; "refused {:08X} {}", u32::from(fault.kind), fault.layer)
+fn refused(rt: &impl Print, number: u64, fault: Fault) -> io::Result<()> {
+    println!(rt;
+        "token {number}: refused {:08X} {}",
+        u32::from(fault.kind),
+        fault.layer
+    )
 }
 
 // Prints the refusal, and where and why.
-fn explained(rt: &impl Print, token: &[u8], fault: Fault) -> io::Result<()> {
-    refused(rt, fault)?;
+fn explained(rt: &impl Print, number: u64, token: &[u8], fault: Fault) -> io::Result<()> {
+    refused(rt, number, fault)?;
     match explain(token) {
         Err(trouble) => println!(rt; "{trouble}"),
         Ok(()) => println!(rt; "no reason found"),
