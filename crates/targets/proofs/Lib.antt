@@ -1,3 +1,4 @@
 pub mod Doubles
 pub mod Groups
+pub mod Numbers
 pub mod Worked

@@ -20,11 +20,18 @@ fn is_decimal(text: &[u8]) -> bool
     )
 }
 
-// Whether the text is four such numbers, with a dot between each and the next.
+// Whether the text is four such numbers, with a dot between each and the next. One walk, which ends at the first piece that is no number.
 fn is_ipv4(text: &[u8]) -> bool
     ensures { result ≡ ipv4 text.now }
 {
-    pieces(text, b'.').count() == 4 && pieces(text, b'.').all(is_decimal)
+    let mut n: usize = 0;
+    for number in pieces(text, b'.') {
+        if !is_decimal(number) {
+            return false;
+        }
+        n += 1;
+    }
+    n == 4
 }
 
 // Whether the text is one to four hexadecimal digits.
@@ -55,19 +62,26 @@ fn count_groups(text: &[u8], dotted: bool) -> Option<usize>
     if text.is_empty() {
         return Some(0);
     }
-    let last = last_group(after_last(text, b':'), dotted)?;
-    let before_last = pieces(text, b':').count() - 1;
-    pieces(text, b':')
-        .take(before_last)
-        .all(is_hex_group)
-        .then_some(before_last + last)
+    let mut n: usize = 0;
+    let mut left = pieces(text, b':');
+    let mut group = left.next()?;
+    for next in left {
+        if !is_hex_group(group) {
+            return None;
+        }
+        n += 1;
+        group = next;
+    }
+    Some(n + last_group(group, dotted)?)
 }
 
 // The text before the first two colons in a row, and the text behind them.
 fn split_double(text: &[u8]) -> Option<(&[u8], &[u8])>
     ensures { seen_pair result ≡ cut_double text.now }
 {
-    let i = text.array_windows().position(|pair| pair == b"::")?;
+    let i = text
+        .array_windows::<2>()
+        .position(|[a, b]| *a == b':' && *b == b':')?;
     Some((&text[..i], &text[i + 2..]))
 }
 

@@ -1,27 +1,20 @@
-use Rattle.std.proofs.Common.{length, rules, ap, sym, ◌∙◌, arith}
+use Rattle.std.proofs.Common.{ap, sym, ◌∙◌, ◌∷◌, arith, length}
 use Rattle.std.proofs.lemmas.Bool.{eqb-true}
-use Rattle.std.proofs.lemmas.Iterator.{YieldsList-from_take}
-use Rattle.std.proofs.lemmas.Iterator.Consumers.{count_from_yields_List, YieldsList-at}
-use Rattle.std.proofs.lemmas.Iterator.Search.{all_from_yields_List}
-use Rattle.text.proofs.Cuts.{gives_pieces}
-use Rattle.targets.specs.Addresses.{hex_group, last_group}
-use Rattle.targets.proofs.Groups.{groups_none, groups_some, groups_empty, some_piece}
+use Rattle.text.specs.Pieces.{pieces_left}
+use Rattle.targets.proofs.Groups.{counted, some_piece, groups_begin, groups_empty}
 use Rattle.targets.proofs.count_groups.Goals as goal
 
 pub returns-then-is_empty : goal.returns-then-is_empty
 returns-then-is_empty c = groups_empty c.args.dotted c.args.text.now (eqb-true (length c.args.text.now) 0 (sym c.if-is_empty.ensures))
 
-pub returns-in_err-last : goal.returns-in_err-last
-returns-in_err-last c =
-    c.from_residual.ensures ∙ groups_none c.args.dotted c.args.text.now c.if-is_empty.ensures (ap (last_group c.args.dotted) (sym c.after_last.ensures) ∙ (sym c.last_group.ensures ∙ c.in_err-last.was))
+pub returns-in_err-group : goal.returns-in_err-group
+returns-in_err-group c =
+    absurd (omega (arith, some_piece 0x3A c.args.text.now, ap length c.pieces-left.ensures.all, ap length c.in_err-group.ensures.steps.0))
 
-pub overflow_sub-before_last : goal.overflow_sub-before_last
-overflow_sub-before_last c =
-    let n = count_from_yields_List _ c.count-before_last.result c.count-before_last.ensures.ran (gives_pieces c.pieces.ensures.all) in
-    omega (arith, n, some_piece 0x3A c.args.text.now)
-
-pub returns : goal.returns
-returns c =
-    let n = count_from_yields_List _ c.count-before_last.result c.count-before_last.ensures.ran (gives_pieces c.pieces.ensures.all) in
-    let hex = all_from_yields_List hex_group _ _ c.all.result c.all.ensures.ran (YieldsList-from_take _ (YieldsList-at c.take.ensures.source (gives_pieces c.pieces-2.ensures.all)) c.take.ensures.count) (λ x b q k. search rules) in
-    c.then_some.ensures ∙ groups_some c.args.dotted c.args.text.now _ c.in_ok-last.last c.all.result c.if-is_empty.ensures n hex (ap (last_group c.args.dotted) (sym c.after_last.ensures) ∙ (sym c.last_group.ensures ∙ c.in_ok-last.was))
+pub loop-next-init : goal.loop-next-init
+loop-next-init c =
+    let e = ap pieces_left c.into_iter-next-iterator.ensures.into_iter_gives in
+    let s = c.in_ok-group.ensures.steps in (
+      ap (λ ps. counted c.args.dotted 0 (c.in_ok-group.group.now ∷ ps)) e ∙ groups_begin c.args.dotted c.args.text.now c.if-is_empty.ensures (sym c.pieces-left.ensures.all ∙ s),
+      omega (arith, ap length e, ap length s, c.pieces-left.ensures.count),
+    )

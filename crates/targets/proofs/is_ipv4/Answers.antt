@@ -1,20 +1,9 @@
-use Rattle.std.proofs.Common.{rules, arith}
-use Rattle.std.proofs.lemmas.Bool.Decides.{nat_tests}
-use Rattle.std.proofs.lemmas.Iterator.Consumers.{count_from_yields_List}
-use Rattle.std.proofs.lemmas.Iterator.Search.{all_from_yields_List}
-use Rattle.text.proofs.Cuts.{gives_pieces}
-use Rattle.targets.specs.Addresses.{decimal255, ipv4}
+use Rattle.std.proofs.Common.{ap, ◌∙◌, arith, length}
+use Rattle.text.specs.Pieces.{pieces_left}
+use Rattle.targets.proofs.Numbers.{four, numbers_begin}
 use Rattle.targets.proofs.is_ipv4.Goals as goal
 
-pub returns-then-count-eq4 : goal.returns-then-count-eq4
-unfolding ipv4
-returns-then-count-eq4 c =
-    let n = count_from_yields_List _ c.count.result c.count.ensures.ran (gives_pieces c.pieces.ensures.all) in
-    let m = all_from_yields_List decimal255 _ _ c.all.result c.all.ensures.ran (gives_pieces c.pieces-then-count-eq4.ensures.all) (λ x b q k. search rules) in
-    grind (arith, nat_tests, n, m)
-
-pub returns-else-count-eq4 : goal.returns-else-count-eq4
-unfolding ipv4
-returns-else-count-eq4 c =
-    let n = count_from_yields_List _ c.count.result c.count.ensures.ran (gives_pieces c.pieces.ensures.all) in
-    grind (arith, nat_tests, n)
+pub loop-number-init : goal.loop-number-init
+loop-number-init c =
+    let e = ap pieces_left c.into_iter-number-iterator.ensures.into_iter_gives ∙ c.pieces-number-items.ensures.all in
+    (ap (four 0) e ∙ numbers_begin c.args.text.now, omega (arith, ap length e, ap length c.pieces-number-items.ensures.all))
