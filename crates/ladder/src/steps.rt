@@ -141,8 +141,10 @@ impl Mechanism for Ladder {
     }
 
     fn name(&self, name: &mut [u8; 64]) -> Result<usize, Fault> {
-        let no_name = Layer::Mechanism.fault(ErrorKind::NoContext);
-        let account = self.account.ok_or(no_name)?;
+        // By reference: the name is copied once, into the caller's buffer.
+        let Some(account) = &self.account else {
+            return Err(Layer::Mechanism.fault(ErrorKind::NoContext));
+        };
         let held = account.as_slice();
         name[..held.len()].copy_from_slice(held);
         Ok(held.len())
