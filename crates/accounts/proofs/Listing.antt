@@ -51,11 +51,11 @@ known xs h =
     let q = and_parts (eqb (count_of xs % 2) 0) _ p.1 in
     record { sound = places.sound_of xs p.0; short = q.1 }
 
-many : (xs : List ℕ) → length (accounts xs) ≡ account_count xs
+pub many : (xs : List ℕ) → length (accounts xs) ≡ account_count xs
 unfolding accounts
 many xs = length-paired (entries xs) ∙ ap (λ n. n / 2) (places.many xs)
 
-here : (xs : List ℕ) (i : ℕ) → book_or_empty xs ≡ xs → account_at xs i ≡ slice_get (accounts xs) i
+pub here : (xs : List ℕ) (i : ℕ) → book_or_empty xs ≡ xs → account_at xs i ≡ slice_get (accounts xs) i
 unfolding accounts account_at
 here xs i h =
     ⊎_elim

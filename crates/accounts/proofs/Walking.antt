@@ -78,12 +78,12 @@ rising_cond : (b : Bool) (k i : ℕ) (is : List ℕ) → k ≤ i → Rising (i +
 rising_cond true k i is l p q = (l, p)
 rising_cond false k i is l p q = q
 
-rising : (p : ℕ → Bool) (n k i : ℕ) → k ≤ i → Rising k (filter p (range_with_len i n))
+pub rising : (p : ℕ → Bool) (n k i : ℕ) → k ≤ i → Rising k (filter p (range_with_len i n))
 rising p zero k i l = tt
 rising p (suc n) k i l = rising_cond (p i) k i (filter p (range_with_len (i + 1) n)) l (rising p n (i + 1) (i + 1) (omega arith)) (rising p n k (i + 1) (omega arith))
 
 -- those that are at least k
-abbrev from : ℕ → List ℕ → List ℕ
+abbrev pub from : ℕ → List ℕ → List ℕ
 from k is = filter (λ i. leb k i) is
 
 from_in : (b : Bool) (k i : ℕ) (is : List ℕ) → k ≤ i → from k is ≡ is → from k (cond b (i ∷ is) is) ≡ cond b (i ∷ is) is
@@ -98,7 +98,7 @@ from_all : (p : ℕ → Bool) (n k i : ℕ) → k ≤ i → from k (filter p (ra
 from_all p zero k i l = refl
 from_all p (suc n) k i l = from_in (p i) k i (filter p (range_with_len (i + 1) n)) l (from_all p n k (i + 1) (omega arith))
 
-from_some : (p : ℕ → Bool) (n k i : ℕ) → i ≤ k → filter p (range_with_len k ((n + i) - k)) ≡ from k (filter p (range_with_len i n))
+pub from_some : (p : ℕ → Bool) (n k i : ℕ) → i ≤ k → filter p (range_with_len k ((n + i) - k)) ≡ from k (filter p (range_with_len i n))
 from_some p zero k i l = let e : (0 + i) - k ≡ 0 = omega arith in ap (λ m. filter p (range_with_len k m)) e
 from_some p (suc n) k i l =
     ⊎_elim

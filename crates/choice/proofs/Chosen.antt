@@ -28,7 +28,7 @@ later oid o os n i h (j, e, s, first) =
     before zero l x = cc ((bytes_eq-Decides o oid).1 x.1, h)
     before (suc k) l x = first k (omega arith) (let m = x.0 in omega arith, x.1)
 
-place_found : (oid : List ℕ) (os : Oids) (n i : ℕ) → place_from n oid os ≡ Some i → Found oid os n i
+pub place_found : (oid : List ℕ) (os : Oids) (n i : ℕ) → place_from n oid os ≡ Some i → Found oid os n i
 place_found oid [] n i e = cc (e)
 place_found oid (o ∷ os) n i e =
     elim (bytes_eq o oid) as (λ t. bytes_eq o oid ≡ t → cond t (Some n) (place_from (n + 1) oid os) ≡ Some i → Found oid (o ∷ os) n i) [
@@ -36,7 +36,7 @@ place_found oid (o ∷ os) n i e =
       | false ↦ λ h s. later oid o os n i h (place_found oid os (n + 1) i s)
     ] refl e
 
-place_none : (oid : List ℕ) (os : Oids) (n : ℕ) → place_from n oid os ≡ None → NotListed oid os
+pub place_none : (oid : List ℕ) (os : Oids) (n : ℕ) → place_from n oid os ≡ None → NotListed oid os
 place_none oid [] n e = λ i x. let l = x.0 in absurd (omega arith)
 place_none oid (o ∷ os) n e = by (bytes_eq o oid) refl e (place_none oid os (n + 1))
   where

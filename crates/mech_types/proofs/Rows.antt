@@ -24,13 +24,13 @@ short_measures n =
     ⊎_elim (λ l. inr ((λ k. omega arith), cond-true (ltb 65535 n) _ _ (lt-ltb 65535 n l))) (λ l. inl (omega arith, cond-false (ltb 65535 n) _ _ (le-ltb 65535 n l)))
     (cases_lt 65535 n)
 
-add_measures : (n : ℕ) (o : List ℕ) → Measures ((oid o ≡ true) × (n + length (element 0x06 o) < 65536)) (n + length (element 0x06 o)) (add_oid n o)
+pub add_measures : (n : ℕ) (o : List ℕ) → Measures ((oid o ≡ true) × (n + length (element 0x06 o) < 65536)) (n + length (element 0x06 o)) (add_oid n o)
 add_measures n o =
     let m = length-element 0x06 o in
     measures_as (λ g. (g.0, g.1.1)) (λ g. (g.0, (omega (arith, g.1), g.1))) refl
     (measures_if (oid o) (measures_then _ (element_measures 0x06 o) (λ _. short_measures (n + length (element 0x06 o)))))
 
-rows_measures : (os : List (List ℕ)) (n : ℕ) → n < 65536 → Measures ((all_oids os ≡ true) × (n + length (oids os) < 65536)) (n + length (oids os)) (oids_len_from n os)
+pub rows_measures : (os : List (List ℕ)) (n : ℕ) → n < 65536 → Measures ((all_oids os ≡ true) × (n + length (oids os) < 65536)) (n + length (oids os)) (oids_len_from n os)
 unfolding oids all_oids
 rows_measures [] n l = inl ((refl, omega arith), ap Ok (sym (add-zero n)))
 rows_measures (o ∷ os) n l =
@@ -47,11 +47,11 @@ pub list_refused : (os : List (List ℕ)) (e : Fault) → oids_len_from 0 os ≡
 list_refused os e r = unmeasured _ _ (oids_len_from 0 os) e (list_measures os) r
 
 -- the loop over the writing
-row_more : (rs : Refs) (i : ℕ) (d : Bor (List ℕ)) → i < length rs → oids (plain_oids (take (i + 1) rs)) ≡ oids (plain_oids (take i rs)) ++ element 0x06 (get_or rs i d).now
+pub row_more : (rs : Refs) (i : ℕ) (d : Bor (List ℕ)) → i < length rs → oids (plain_oids (take (i + 1) rs)) ≡ oids (plain_oids (take i rs)) ++ element 0x06 (get_or rs i d).now
 unfolding oids
 row_more rs i d l = simp (take_more rs i d l, map-append, flat_map-append, append-nil)
 
-row_split : (rs : Refs) (i : ℕ) (d : Bor (List ℕ)) → i < length rs
+pub row_split : (rs : Refs) (i : ℕ) (d : Bor (List ℕ)) → i < length rs
     → oids (plain_oids rs) ≡ oids (plain_oids (take i rs)) ++ (element 0x06 (get_or rs i d).now ++ oids (plain_oids (drop (suc i) rs)))
 unfolding oids
 row_split rs i d l = ap (λ v. oids (plain_oids v)) (split_at rs i d l) ∙ simp (map-append, flat_map-append)

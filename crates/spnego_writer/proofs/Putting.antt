@@ -29,7 +29,7 @@ adds_inside k t part h l p =
     rw h (adds (omega (arith, ap length e)) p)
 
 -- the length of what stands inside a field
-wrapped_len_lem : (o : Option ℕ) (part : List ℕ) → length (wrapped o part) < 65536 → wrapped_len o (length part) ≡ Ok (length (wrapped o part))
+pub wrapped_len_lem : (o : Option ℕ) (part : List ℕ) → length (wrapped o part) < 65536 → wrapped_len o (length part) ≡ Ok (length (wrapped o part))
 wrapped_len_lem None part l = refl
 wrapped_len_lem (Some t) part l = let n = length-element t part in element_len_lem t part (omega arith)
 
@@ -64,7 +64,7 @@ wrapped_measures t (Some u) part =
 abbrev GoodField : Kind → Option (List ℕ) → Type 0
 GoodField k o = LegalField k o × Short (option_map (inside k) o)
 
-field_measures : (t : ℕ) (k : Kind) (o : Option (List ℕ)) → Measures (GoodField k o) (length (field t k o)) (field_len k o)
+pub field_measures : (t : ℕ) (k : Kind) (o : Option (List ℕ)) → Measures (GoodField k o) (length (field t k o)) (field_len k o)
 field_measures t k None = inl ((tt, tt), refl)
 field_measures t k (Some part) =
     measures_as (λ g. (passes_legal k part g.0, g.1)) (λ g. (legal_passes k part g.0, g.1)) refl (measures_if (legal_test k part) (wrapped_measures t (wrapper k) part))
@@ -80,7 +80,7 @@ pub four_lengths : (k l : Kind) (f : Fields)
 unfolding four_fields
 four_lengths k l f = simp length-append
 
-sequence_measures : (k l : Kind) (f : Fields)
+pub sequence_measures : (k l : Kind) (f : Fields)
     → Measures (LegalFields k l f × (length (four_fields k l f) < 65536)) (length (four_fields k l f), length (sequence k l f)) (sequence_len k l f)
 unfolding sequence
 sequence_measures k l f =

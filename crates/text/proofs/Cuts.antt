@@ -2,6 +2,7 @@
 use Rattle.std.proofs.Common.{◌≡◌, ℕ, zero, suc, ◌+◌, ◌<◌, ◌≤◌, Bool, true, false, cond, eqb, List, [], ◌∷◌, length, get_or, take, drop, map, Some, None, Option, Bor, sym, refl, ap, ◌∙◌, arith}
 use Rattle.std.proofs.lemmas.Bool.{eq-eqb, ne_eqb}
 use Rattle.std.proofs.lemmas.Iterator.{YieldsList}
+use Rattle.std.proofs.lemmas.Option.{none-some}
 use Rattle.std.proofs.lemmas.Iterator.Consumers.{YieldsList-from_first}
 use Rattle.std.specs.Iterator.{YieldsFirstRef}
 use Rattle.std.specs.List.{last_or}
@@ -19,6 +20,15 @@ pieces_cut mark (x ∷ xs) = by (eqb x mark) (pieces_cut mark xs)
         → cond t ([] ∷ pieces mark xs) (longer x (pieces mark xs)) ≡ cond t [] (x ∷ up_to mark xs) ∷ others mark (cond t (Some xs) (behind mark xs))
     by true h = refl
     by false h = ap (longer x) h
+
+-- what stands behind a mark is shorter
+pub behind_shorter : (mark : ℕ) (xs ys : List ℕ) → behind mark xs ≡ Some ys → length ys < length xs
+behind_shorter mark [] ys e = absurd (none-some ys e)
+behind_shorter mark (x ∷ xs) ys e = by (eqb x mark) (behind_shorter mark xs ys) e
+  where
+    by : (t : Bool) → (behind mark xs ≡ Some ys → length ys < length xs) → cond t (Some xs) (behind mark xs) ≡ Some ys → length ys < length (x ∷ xs)
+    by true h e = let s : xs ≡ ys = cc (e) in let n = ap length s in omega arith
+    by false h e = let l = h e in omega arith
 
 -- the text is cut where its first mark stands
 pub at_mark : (mark : ℕ) (xs : List ℕ) (i : ℕ) → i < length xs → get_or xs i 0 ≡ mark → ((k : ℕ) → k < i → get_or xs k 0 ≡ mark → ⊥)
@@ -41,6 +51,11 @@ no_mark mark (x ∷ xs) n =
 
 pub cut : (mark : ℕ) (xs : List ℕ) {front : List ℕ} {back : Option (List ℕ)} → front ≡ up_to mark xs → back ≡ behind mark xs → pieces mark xs ≡ front ∷ others mark back
 cut mark xs {front} f b = pieces_cut mark xs ∙ (ap (λ v. v ∷ others mark (behind mark xs)) (sym f) ∙ ap (λ v. front ∷ others mark v) (sym b))
+
+-- the last piece of what stands behind a mark is the last of all
+pub last_behind : (mark : ℕ) (xs ys : List ℕ) → behind mark xs ≡ Some ys → after_last mark xs ≡ after_last mark ys
+last_behind mark xs ys e =
+    ap last_of (pieces_cut mark xs ∙ ap (λ v. up_to mark xs ∷ others mark v) e) ∙ (ap (λ v. last_of (up_to mark xs ∷ v)) (pieces_cut mark ys) ∙ sym (ap last_of (pieces_cut mark ys)))
 
 -- what the last of some references reads
 last_read : (x d : Bor (List ℕ)) (xs : List (Bor (List ℕ))) → (unwrap_or (last_or (Some x) xs) d).now ≡ last_of (map (λ y. y.now) (x ∷ xs))
