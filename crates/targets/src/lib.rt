@@ -3,7 +3,7 @@
 ghost use Rattle.std.specs.Prelude.{◌≡◌};
 ghost use Rattle.targets.specs.Addresses.{decimal255, ipv4, hex_group, last_group, groups, cut_double, seen_pair, at_most_seven, ipv6, target_is_address};
 
-use text::{after_last, pieces};
+use text::{after_last, pieces, split_once};
 
 // Whether the text is a number from 0 to 255, with no zero in front.
 #[tactic(auto, unfolding(crate::specs::Addresses::decimal255))]
@@ -63,14 +63,14 @@ fn count_groups(text: &[u8], dotted: bool) -> Option<usize>
         return Some(0);
     }
     let mut n: usize = 0;
-    let mut left = pieces(text, b':');
-    let mut group = left.next()?;
-    for next in left {
+    let (mut group, mut rest) = split_once(text, b':');
+    while let Some(tail) = rest {
+        // Before the next piece is looked for: the walk ends at the first that is no group.
         if !is_hex_group(group) {
             return None;
         }
         n += 1;
-        group = next;
+        (group, rest) = split_once(tail, b':');
     }
     Some(n + last_group(group, dotted)?)
 }
