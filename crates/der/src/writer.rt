@@ -44,7 +44,7 @@ impl<'a> Writer<'a> {
         ensures buffer { self.new.out.now ≡ self.old.out.now }
         ensures place { MatchResult result
             (λ _. (n ≤ length (room self.old)) × (self.new.at ≡ self.old.at + n))
-            (λ e. (e ≡ too_small) × (length (room self.old) < n)) }
+            (λ e. (e ≡ too_small) × (length (room self.old) < n) × (self.new.at ≡ self.old.at)) }
     {
         if n > self.room() {
             return Err(TOO_SMALL);
